@@ -1,0 +1,4 @@
+//! The validator: a module that breaks none of its rules is `Checked`.
+#![tactic(auto)]
+
+pub mod rules;

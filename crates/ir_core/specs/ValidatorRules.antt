@@ -1,0 +1,64 @@
+-- The rules of the validator, each as the ways to break it, with the spot of each.
+-- Source: DXIL.rst, "Validator Rules" (META.TARGET, META.KNOWN, TYPES.INTWIDTH), and this project's own rule 9.
+use Rattle.std.specs.Prelude.{◌≡◌, ◌≢◌, ℕ, ◌<◌, ◌⊎◌, List, [], ◌++◌, Option, Some, None, slice_get, codes}
+use Rattle.ir_core.specs.declared.module.Module.{Module}
+use Rattle.ir_core.specs.declared.module.Function.{Function}
+use Rattle.ir_core.specs.declared.module.Named.{Named}
+use Rattle.ir_core.specs.declared.module.Ty.{Ty}
+use Rattle.ir_core.specs.declared.module.Ty.TheVariants.{Int, Function as FunctionTy, Void}
+use Rattle.ir_core.specs.declared.instruction.Body.{Body}
+use Rattle.ir_core.specs.declared.spot.Spot.{Spot}
+
+-- the spots of a module, a type, a function and a named metadata
+abbrev pub module_spot : Spot
+module_spot = record { part = 0; first = 0; second = 0 }
+
+abbrev pub type_spot : ℕ → Spot
+type_spot number = record { part = 1; first = number; second = 0 }
+
+abbrev pub function_spot : ℕ → Spot
+function_spot place = record { part = 3; first = place; second = 0 }
+
+abbrev pub named_spot : ℕ → Spot
+named_spot place = record { part = 5; first = place; second = 0 }
+
+-- the target triple of a shader
+abbrev pub shader_triple : List ℕ
+shader_triple = codes "dxil-ms-dx"
+
+-- the text begins with the prefix
+abbrev pub BeginsWith : List ℕ → List ℕ → Type 0
+BeginsWith prefix text = (rest : List ℕ) × (text ≡ prefix ++ rest)
+
+-- a name of metadata that is known: it begins with `dx.` or `llvm.`
+abbrev pub IsKnownName : List ℕ → Type 0
+IsKnownName name = BeginsWith (codes "dx.") name ⊎ BeginsWith (codes "llvm.") name
+
+-- a width that an integer may have
+abbrev pub IsWidth : ℕ → Type 0
+IsWidth width = (width ≡ 1) ⊎ ((width ≡ 8) ⊎ ((width ≡ 16) ⊎ ((width ≡ 32) ⊎ (width ≡ 64))))
+
+-- the function at that place has a body
+abbrev pub HasBodyAt : Module → ℕ → Type 0
+HasBodyAt m place = (function : Function) × (body : Body) × (slice_get m.functions place ≡ Some function) × (function.body ≡ Some body)
+
+-- a type number of a function without parameters and without a result
+abbrev pub IsPlain : Module → ℕ → Type 0
+IsPlain m number = (result : ℕ) × (slice_get m.types number ≡ Some (FunctionTy result [])) × (slice_get m.types result ≡ Some Void)
+
+-- the module breaks the rule at the spot
+pub data Breaks (m : Module) : ℕ → Spot → Type 0 where
+  -- 1, META.TARGET: the triple is that of a shader; the layout is free
+  other_triple : m.triple ≢ shader_triple → Breaks m 1 module_spot
+  -- 3, META.KNOWN: each named metadata begins with `dx.` or `llvm.`
+  unknown_name : (place : ℕ) (named : Named) → slice_get m.named place ≡ Some named → ¬ IsKnownName named.name →
+      Breaks m 3 (named_spot place)
+  -- 8, TYPES.INTWIDTH: an integer has 1, 8, 16, 32 or 64 bits
+  odd_width : (number width : ℕ) → slice_get m.types number ≡ Some (Int width) → ¬ IsWidth width →
+      Breaks m 8 (type_spot number)
+  -- 9, this project's own: exactly one function has a body, without parameters and result
+  no_body : ((place : ℕ) → ¬ HasBodyAt m place) → Breaks m 9 module_spot
+  second_body : (place earlier : ℕ) → earlier < place → HasBodyAt m earlier → HasBodyAt m place →
+      Breaks m 9 (function_spot place)
+  body_with_parts : (place : ℕ) (function : Function) → HasBodyAt m place → slice_get m.functions place ≡ Some function →
+      ¬ IsPlain m function.ty → Breaks m 9 (function_spot place)

@@ -2,3 +2,6 @@
 #![tactic(auto)]
 
 pub mod rules;
+pub mod validate;
+
+pub use validate::{Checked, Invalid};

@@ -55,7 +55,7 @@ pub enum Invalid {
 
 /// The first spot where the least broken rule is broken.
 fn verdict(module: &Module) -> Option<(u8, Spot)>
-    ensures { IsAnswerOf module.now result }
+    ensures { IsAnswerOf «module».now result }
 {
     if !is_shader_triple(module.triple.as_slice()) {
         return Some((1, Spot::MODULE));
@@ -75,8 +75,8 @@ fn verdict(module: &Module) -> Option<(u8, Spot)>
 /// The validator: the module itself where it breaks no rule, and else the least broken rule at its
 /// first spot, with the module handed back.
 pub fn validate(module: Module) -> Result<Checked, Invalid>
-    requires { IsSound module }
-    ensures { IsValidated module result }
+    requires { IsSound «module» }
+    ensures { IsValidated «module» result }
 {
     match verdict(&module) {
         None => Ok(Checked { inner: module }),

@@ -1,11 +1,12 @@
 -- The search for a wrong body: what is known of the functions that it has passed.
-use Rattle.std.proofs.Common.{◌≡◌, ℕ, ◌+◌, ◌<◌, ◌≤◌, List, length, get_or, arith, refl, sym, ◌∙◌, ap, subst, Some, None, Bool, true, false, below_more, inl, inr}
-use Rattle.std.specs.Prelude.{slice_get, Option, ◌⊎◌}
+use Rattle.std.proofs.Common.{◌≡◌, ℕ, ◌+◌, ◌<◌, ◌≤◌, List, length, get_or, arith, refl, sym, ◌∙◌, subst, Some, Bool, true, false, below_more, inl, inr}
+use Rattle.std.specs.Prelude.{slice_get, ◌⊎◌}
 use Rattle.std.proofs.lemmas.Option.{slice_get_within, slice_get_read, get_or_from_slice_get}
 use Rattle.ir_core.specs.declared.module.Function.{Function}
 use Rattle.ir_core.specs.declared.module.Ty.{Ty}
-use Rattle.dx_validate.specs.Places.{IsPlainIn}
-use Rattle.dx_validate.specs.Bodies.{HasBody, HasBodyAt, IsWrongAt}
+use Rattle.ir_core.specs.ValidatorRules.{IsPlain}
+use Rattle.dx_validate.specs.Bodies.{IsWrongAt}
+use Rattle.ir_core.specs.ValidatorRules.{HasBody, HasBodyAt}
 
 -- whether a body was seen among the first i functions
 abbrev pub Seen : List Function → ℕ → Bool → Type 0
@@ -27,23 +28,23 @@ bodiless-at functions i x e none (y, at, body) = none (subst HasBody (sym (same_
 pub Passed-bodiless : (types : List Ty) (functions : List Function) (i : ℕ) (found : Bool) (x : Function) → Passed types functions i found →
     x ≡ get_or functions i x → (HasBody x → ⊥) → Passed types functions (i + 1) found
 Passed-bodiless types functions i found x p e none = record {
-    right = below_more (λ (k : ℕ). IsWrongAt types functions k → ⊥) i p.right (λ w. bodiless-at functions i x e none (w.0, w.1, w.2));
-    seen = seen_more found p.seen;
-  } where
+  right = below_more (λ (k : ℕ). IsWrongAt types functions k → ⊥) i p.right (λ w. bodiless-at functions i x e none (w.0, w.1, w.2));
+  seen = seen_more found p.seen;
+} where
   seen_more : (found : Bool) → Seen functions i found → Seen functions (i + 1) found
   seen_more true s = (s.0, omega (arith, s.1), s.2)
   seen_more false s = below_more (λ (k : ℕ). HasBodyAt functions k → ⊥) i s (bodiless-at functions i x e none)
 
 -- the first body is passed where it is plain
 pub Passed-first : (types : List Ty) (functions : List Function) (i : ℕ) (x : Function) → Passed types functions i false → i < length functions →
-    x ≡ get_or functions i x → HasBody x → IsPlainIn types x.ty → Passed types functions (i + 1) true
+    x ≡ get_or functions i x → HasBody x → IsPlain types x.ty → Passed types functions (i + 1) true
 Passed-first types functions i x p lt e body plain = record {
-    right = below_more (λ (k : ℕ). IsWrongAt types functions k → ⊥) i p.right right_here;
-    seen = (i, omega arith, (x, slice_get_read functions (length functions) i x refl lt e, body));
-  } where
-  split : (y : Function) → x ≡ y → ((earlier : ℕ) × (earlier < i) × HasBodyAt functions earlier) ⊎ (¬ IsPlainIn types y.ty) → ⊥
+  right = below_more (λ (k : ℕ). IsWrongAt types functions k → ⊥) i p.right right_here;
+  seen = (i, omega arith, (x, slice_get_read functions (length functions) i x refl lt e, body));
+} where
+  split : (y : Function) → x ≡ y → ((earlier : ℕ) × (earlier < i) × HasBodyAt functions earlier) ⊎ (¬ IsPlain types y.ty) → ⊥
   split y s (inl w) = p.seen w.0 w.1 w.2
-  split y s (inr odd) = odd (subst (λ (f : Function). IsPlainIn types f.ty) s plain)
+  split y s (inr odd) = odd (subst (λ (f : Function). IsPlain types f.ty) s plain)
 
   right_here : IsWrongAt types functions i → ⊥
   right_here (y, at, has, why) = split y (same_function functions i x y e at) why

@@ -1,7 +1,6 @@
 -- A search that has passed the places below i without a failure.
-use Rattle.std.proofs.Common.{◌≡◌, ℕ, ◌+◌, ◌<◌, ◌≤◌, List, length, get_or, arith, refl, sym, ◌∙◌, ap, subst, Some, below_more}
-use Rattle.std.specs.Prelude.{slice_get, Option}
-use Rattle.std.proofs.lemmas.Option.{slice_get_within, slice_get_read, slice_get_past, get_or_from_slice_get}
+use Rattle.std.proofs.Common.{◌≡◌, ℕ, ◌+◌, ◌<◌, ◌≤◌, List, length, get_or, arith, refl, ◌∙◌, subst, below_more}
+use Rattle.std.proofs.lemmas.Option.{slice_get_within, slice_get_read, get_or_from_slice_get}
 use Rattle.dx_validate.specs.Places.{FailsAt}
 
 -- no part below i fails

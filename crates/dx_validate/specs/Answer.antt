@@ -2,8 +2,8 @@
 use Rattle.std.specs.Prelude.{◌≡◌, ℕ, Option, Some, None, Result, Ok, Err}
 use Rattle.ir_core.specs.declared.module.Module.{Module}
 use Rattle.ir_core.specs.declared.spot.Spot.{Spot}
-use Rattle.dx_validate.specs.declared.validate.Invalid.{Invalid}
-use Rattle.dx_validate.specs.declared.validate.Invalid.TheVariants.{Broken, Memory}
+use Rattle.dx_validate.specs.declared.verdict.Invalid.{Invalid}
+use Rattle.dx_validate.specs.declared.verdict.Invalid.TheVariants.{Broken, Memory}
 use Rattle.dx_validate.specs.Verdict.{IsSpotless, IsVerdict}
 
 -- a verdict where there is one, and none where no rule is broken

@@ -1,8 +1,8 @@
 -- Places of a list at which a fact fails, for the searches of the validator.
-use Rattle.std.specs.Prelude.{◌≡◌, ℕ, ◌<◌, List, [], Option, Some, slice_get, MatchOption}
+use Rattle.std.specs.Prelude.{◌≡◌, ℕ, ◌<◌, List, Option, Some, slice_get, MatchOption}
 use Rattle.ir_core.specs.declared.module.Named.{Named}
 use Rattle.ir_core.specs.declared.module.Ty.{Ty}
-use Rattle.ir_core.specs.declared.module.Ty.TheVariants.{Int, Function, Void}
+use Rattle.ir_core.specs.declared.module.Ty.TheVariants.{Int}
 use Rattle.ir_core.specs.ValidatorRules.{IsKnownName, IsWidth}
 
 -- the fact fails of the part at that place
@@ -20,7 +20,3 @@ HasKnownName named = IsKnownName named.name
 abbrev pub HasFineWidth : Ty → Type 0
 HasFineWidth (Int width) = IsWidth width
 HasFineWidth _ = Unit {0}
-
--- a type number of a function without parameters and without result
-abbrev pub IsPlainIn : List Ty → ℕ → Type 0
-IsPlainIn types number = (result : ℕ) × (slice_get types number ≡ Some (Function result [])) × (slice_get types result ≡ Some Void)

@@ -1,7 +1,7 @@
 //! The validator: a module that breaks none of its rules is `Checked`.
 #![tactic(auto)]
 
-pub mod rules;
-pub mod validate;
+mod rules;
+mod verdict;
 
-pub use validate::{Checked, Invalid};
+pub use verdict::{Checked, Invalid, validate};

@@ -1,9 +1,9 @@
 //! One search for each rule: where a module breaks it first.
 
-ghost use Rattle.std.specs.Prelude.{◌≡◌, ◌↔◌, ◌≤◌, IsTrue, length};
-ghost use Rattle.ir_core.specs.ValidatorRules.{IsKnownName, IsWidth, shader_triple};
-ghost use Rattle.dx_validate.specs.Places.{IsFirstFailure, HasKnownName, HasFineWidth, IsPlainIn};
-ghost use Rattle.dx_validate.specs.Bodies.{IsFirstBodyFault};
+ghost use Rattle.std.specs.Prelude.{◌≡◌, ◌↔◌, ◌<◌, IsTrue, IfSome, length};
+ghost use Rattle.ir_core.specs.ValidatorRules.{IsKnownName, IsPlain, shader_triple};
+ghost use Rattle.dx_validate.specs.Places.{IsFirstFailure, HasKnownName, HasFineWidth};
+ghost use Rattle.dx_validate.specs.Bodies.{IsFirstBodyFault, IsWithin};
 
 use ir_core::{Function, Named, Ty};
 
@@ -26,7 +26,8 @@ pub fn is_known_name(name: &[u8]) -> bool
 
 /// The first named metadata whose name isn't known.
 pub fn first_unknown_name(named: &[Named]) -> Option<usize>
-    ensures { IsFirstFailure HasKnownName named.now result }
+    ensures first { IsFirstFailure HasKnownName named.now result }
+    ensures within { IfSome result (λ place. place < length named.now) }
 {
     for (place, one) in named.iter().enumerate() {
         if !is_known_name(one.name.as_slice()) {
@@ -48,7 +49,8 @@ pub fn has_fine_width(ty: &Ty) -> bool
 
 /// The first integer type of another width.
 pub fn first_odd_width(types: &[Ty]) -> Option<usize>
-    ensures { IsFirstFailure HasFineWidth types.now result }
+    ensures first { IsFirstFailure HasFineWidth types.now result }
+    ensures within { IfSome result (λ number. number < length types.now) }
 {
     for (number, ty) in types.iter().enumerate() {
         if !has_fine_width(ty) {
@@ -60,7 +62,7 @@ pub fn first_odd_width(types: &[Ty]) -> Option<usize>
 
 /// Whether a type number names a function type without parameters and without result.
 pub fn is_plain(types: &[Ty], number: u32) -> bool
-    ensures { IsTrue result ↔ IsPlainIn types.now number }
+    ensures { IsTrue result ↔ IsPlain types.now number }
 {
     match types.get(number as usize) {
         Some(Ty::Function { result, params }) => {
@@ -81,7 +83,8 @@ pub enum BodyFault {
 /// The first place where the rule on bodies is broken: exactly one function has a body, and that one
 /// has neither parameters nor a result.
 pub fn first_body_fault(types: &[Ty], functions: &[Function]) -> Option<BodyFault>
-    ensures { IsFirstBodyFault types.now functions.now result }
+    ensures first { IsFirstBodyFault types.now functions.now result }
+    ensures within { IfSome result (IsWithin (length functions.now)) }
 {
     let mut found = false;
     for (place, function) in functions.iter().enumerate() {

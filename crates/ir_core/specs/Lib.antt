@@ -1,3 +1,4 @@
 pub mod Soundness
-pub mod Values
+pub mod Spots
 pub mod ValidatorRules
+pub mod Values

@@ -1,6 +1,6 @@
 -- The rules of the validator, each as the ways to break it, with the spot of each.
 -- Source: DXIL.rst, "Validator Rules" (META.TARGET, META.KNOWN, TYPES.INTWIDTH), and this project's own rule 9.
-use Rattle.std.specs.Prelude.{◌≡◌, ◌≢◌, ℕ, ◌<◌, ◌⊎◌, List, [], ◌++◌, Option, Some, None, slice_get, codes}
+use Rattle.std.specs.Prelude.{◌≡◌, ◌≢◌, ℕ, ◌<◌, ◌⊎◌, List, [], ◌++◌, Some, slice_get, codes}
 use Rattle.ir_core.specs.declared.module.Module.{Module}
 use Rattle.ir_core.specs.declared.module.Function.{Function}
 use Rattle.ir_core.specs.declared.module.Named.{Named}
@@ -8,19 +8,7 @@ use Rattle.ir_core.specs.declared.module.Ty.{Ty}
 use Rattle.ir_core.specs.declared.module.Ty.TheVariants.{Int, Function as FunctionTy, Void}
 use Rattle.ir_core.specs.declared.instruction.Body.{Body}
 use Rattle.ir_core.specs.declared.spot.Spot.{Spot}
-
--- the spots of a module, a type, a function and a named metadata
-abbrev pub module_spot : Spot
-module_spot = record { part = 0; first = 0; second = 0 }
-
-abbrev pub type_spot : ℕ → Spot
-type_spot number = record { part = 1; first = number; second = 0 }
-
-abbrev pub function_spot : ℕ → Spot
-function_spot place = record { part = 3; first = place; second = 0 }
-
-abbrev pub named_spot : ℕ → Spot
-named_spot place = record { part = 5; first = place; second = 0 }
+use Rattle.ir_core.specs.Spots.{module_spot, type_spot, function_spot, named_spot}
 
 -- the target triple of a shader
 abbrev pub shader_triple : List ℕ
@@ -38,13 +26,17 @@ IsKnownName name = BeginsWith (codes "dx.") name ⊎ BeginsWith (codes "llvm.") 
 abbrev pub IsWidth : ℕ → Type 0
 IsWidth width = (width ≡ 1) ⊎ ((width ≡ 8) ⊎ ((width ≡ 16) ⊎ ((width ≡ 32) ⊎ (width ≡ 64))))
 
+-- the function has a body
+abbrev pub HasBody : Function → Type 0
+HasBody function = (body : Body) × (function.body ≡ Some body)
+
 -- the function at that place has a body
-abbrev pub HasBodyAt : Module → ℕ → Type 0
-HasBodyAt m place = (function : Function) × (body : Body) × (slice_get m.functions place ≡ Some function) × (function.body ≡ Some body)
+abbrev pub HasBodyAt : List Function → ℕ → Type 0
+HasBodyAt functions place = (function : Function) × (slice_get functions place ≡ Some function) × HasBody function
 
 -- a type number of a function without parameters and without a result
-abbrev pub IsPlain : Module → ℕ → Type 0
-IsPlain m number = (result : ℕ) × (slice_get m.types number ≡ Some (FunctionTy result [])) × (slice_get m.types result ≡ Some Void)
+abbrev pub IsPlain : List Ty → ℕ → Type 0
+IsPlain types number = (result : ℕ) × (slice_get types number ≡ Some (FunctionTy result [])) × (slice_get types result ≡ Some Void)
 
 -- the module breaks the rule at the spot
 pub data Breaks (m : Module) : ℕ → Spot → Type 0 where
@@ -57,8 +49,8 @@ pub data Breaks (m : Module) : ℕ → Spot → Type 0 where
   odd_width : (number width : ℕ) → slice_get m.types number ≡ Some (Int width) → ¬ IsWidth width →
       Breaks m 8 (type_spot number)
   -- 9, this project's own: exactly one function has a body, without parameters and result
-  no_body : ((place : ℕ) → ¬ HasBodyAt m place) → Breaks m 9 module_spot
-  second_body : (place earlier : ℕ) → earlier < place → HasBodyAt m earlier → HasBodyAt m place →
+  no_body : ((place : ℕ) → ¬ HasBodyAt m.functions place) → Breaks m 9 module_spot
+  second_body : (place earlier : ℕ) → earlier < place → HasBodyAt m.functions earlier → HasBodyAt m.functions place →
       Breaks m 9 (function_spot place)
-  body_with_parts : (place : ℕ) (function : Function) → HasBodyAt m place → slice_get m.functions place ≡ Some function →
-      ¬ IsPlain m function.ty → Breaks m 9 (function_spot place)
+  body_with_parts : (place : ℕ) (function : Function) → slice_get m.functions place ≡ Some function → HasBody function →
+      ¬ IsPlain m.types function.ty → Breaks m 9 (function_spot place)

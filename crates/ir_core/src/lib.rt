@@ -10,4 +10,4 @@ pub use module::{
     Const, ConstValue, Consts, Function, Functions, GlobalVar, Globals, Meta, MetaIds, Metas,
     Module, Named, NamedList, Ty, Types,
 };
-pub use spot::{Spot, SpotPart};
+pub use spot::Spot;

@@ -1,4 +1,3 @@
-use Rattle.std.proofs.Common.{ℕ, ◌<◌, Bool}
 use Rattle.dx_validate.proofs.BodySearch.{Passed}
 use Rattle.dx_validate.proofs.rules.first_body_fault.Given as goal
 

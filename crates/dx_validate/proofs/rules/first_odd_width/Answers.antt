@@ -8,5 +8,5 @@ loop-number-preserved c =
     let fine : HasFineWidth c.index-types-number.result = search rules in
     NoFailureBelow-next HasFineWidth c.args.types.now c.loop-number.number c.index-types-number.result c.loop-number.invariant c.index-types-number.is fine
 
-pub returns : goal.returns
-returns c = NoFailureBelow-all HasFineWidth c.args.types.now c.loop-number.number c.loop-number.invariant (omega arith)
+pub returns-clause-first : goal.returns-clause-first
+returns-clause-first c = NoFailureBelow-all HasFineWidth c.args.types.now c.loop-number.number c.loop-number.invariant (omega arith)

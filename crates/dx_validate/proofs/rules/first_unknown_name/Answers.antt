@@ -8,5 +8,5 @@ loop-place-preserved c =
     let known : HasKnownName c.index-named-place.result = search rules in
     NoFailureBelow-next HasKnownName c.args.named.now c.loop-place.place c.index-named-place.result c.loop-place.invariant c.index-named-place.is known
 
-pub returns : goal.returns
-returns c = NoFailureBelow-all HasKnownName c.args.named.now c.loop-place.place c.loop-place.invariant (omega arith)
+pub returns-clause-first : goal.returns-clause-first
+returns-clause-first c = NoFailureBelow-all HasKnownName c.args.named.now c.loop-place.place c.loop-place.invariant (omega arith)

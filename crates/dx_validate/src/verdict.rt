@@ -8,7 +8,7 @@ ghost use Rattle.dx_validate.specs.Answer.{IsAnswerOf, IsValidated};
 use crate::rules::{
     BodyFault, first_body_fault, first_odd_width, first_unknown_name, is_shader_triple,
 };
-use ir_core::{Module, Spot, SpotPart};
+use ir_core::{Module, Spot};
 use std::marker::Model;
 
 /// A sound module that breaks none of the rules.
@@ -50,7 +50,9 @@ pub enum Invalid {
         module: Module,
     },
     /// Memory was refused.
-    Memory { module: Module },
+    Memory {
+        module: Module,
+    },
 }
 
 /// The first spot where the least broken rule is broken.
@@ -61,14 +63,15 @@ fn verdict(module: &Module) -> Option<(u8, Spot)>
         return Some((1, Spot::MODULE));
     }
     if let Some(place) = first_unknown_name(module.named.as_slice()) {
-        return Some((3, Spot::of(SpotPart::Named, place as u32)));
+        return Some((3, Spot::of_named(place as u32)));
     }
     if let Some(number) = first_odd_width(module.types.as_slice()) {
-        return Some((8, Spot::of(SpotPart::Type, number as u32)));
+        return Some((8, Spot::of_type(number as u32)));
     }
-    match first_body_fault(module.types.as_slice(), module.functions.as_slice())? {
-        BodyFault::Missing => Some((9, Spot::MODULE)),
-        BodyFault::At(place) => Some((9, Spot::of(SpotPart::Function, place as u32))),
+    match first_body_fault(module.types.as_slice(), module.functions.as_slice()) {
+        None => None,
+        Some(BodyFault::Missing) => Some((9, Spot::MODULE)),
+        Some(BodyFault::At(place)) => Some((9, Spot::of_function(place as u32))),
     }
 }
 

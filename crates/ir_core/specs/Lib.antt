@@ -1,2 +1,5 @@
 pub mod Soundness
 pub mod Values
+pub mod Waves
+pub mod MetadataTree
+pub mod Metadata

@@ -8,8 +8,7 @@ use Rattle.ir_core.specs.declared.module.ConstValue.TheVariants as constant
 use Rattle.ir_core.specs.declared.module.Meta.{Meta}
 use Rattle.ir_core.specs.declared.module.Meta.TheVariants.{Chars, Value, Node}
 use Rattle.ir_core.specs.declared.module.Module.{Module}
-use Rattle.ir_core.specs.Types.{same_entry}
-use Rattle.ir_core.specs.Values as values
+use Rattle.ir_core.specs.Values.{ty_eq, low_bits, constant_value, function_value, module_values}
 
 mutual
   -- a text, an integer of a width, an undef pointer, a function by its value number, a node, or
@@ -40,19 +39,19 @@ node parts = a_node (children_of parts)
 -- the tree of a constant of an integer or a pointer type
 abbrev pub constant_tree : Option Ty → ConstValue → Tree
 constant_tree (Some (Int width)) constant.Null = a_number width 0
-constant_tree (Some (Int width)) (constant.Int n) = a_number width (values.low_bits width n)
+constant_tree (Some (Int width)) (constant.Int n) = a_number width (low_bits width n)
 constant_tree (Some (Pointer to space)) constant.Undef = an_undef_pointer
 constant_tree _ _ = another
 
 abbrev pub is_type_of_function : Option Ty → ℕ → Bool
 is_type_of_function None ty = false
-is_type_of_function (Some entry) ty = same_entry entry (Pointer ty 0)
+is_type_of_function (Some entry) ty = ty_eq entry (Pointer ty 0)
 
 -- the tree of a value, which the metadata names with its type
 abbrev pub value_tree : Module → (ty value : ℕ) → Option values.Value → Tree
-value_tree m ty value (Some (values.a_constant c)) =
+value_tree m ty value (Some (constant_value c)) =
     if c.ty == ty then constant_tree (slice_get m.types ty) c.value else another
-value_tree m ty value (Some (values.a_function f)) =
+value_tree m ty value (Some (function_value f)) =
     if is_type_of_function (slice_get m.types ty) f.ty then a_function value else another
 value_tree m ty value _ = another
 
@@ -60,7 +59,7 @@ value_tree m ty value _ = another
 abbrev pub meta_tree : Module → (ℕ → Tree) → Option Meta → Tree
 meta_tree m below None = another
 meta_tree m below (Some (Chars text)) = a_text text
-meta_tree m below (Some (Value ty value)) = value_tree m ty value (slice_get (values.module_values m) value)
+meta_tree m below (Some (Value ty value)) = value_tree m ty value (slice_get (module_values m) value)
 meta_tree m below (Some (Node ids)) = node (map (option_map below) ids)
 
 -- the tree of a metadata number, over at most so many levels

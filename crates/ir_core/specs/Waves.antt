@@ -1,15 +1,15 @@
 -- Whether a module has a wave operation: DXIL's opcodes 110 (WaveIsFirstLane) to 121 (WavePrefixOp).
-use Rattle.std.specs.Prelude.{ℕ, List, [], ◌∷◌, flat_map, Bool, true, false, ◌||◌, ◌&&◌, nat_le, Option, Some, None, slice_get}
+use Rattle.std.specs.Prelude.{ℕ, List, [], ◌∷◌, Bool, true, false, ◌||◌, ◌&&◌, nat_le, Option, Some, None}
 use Rattle.ir_core.specs.declared.module.Function.{Function}
 use Rattle.ir_core.specs.declared.module.Module.{Module}
 use Rattle.ir_core.specs.declared.instruction.Body.{Body}
 use Rattle.ir_core.specs.declared.instruction.Inst.{Inst}
 use Rattle.ir_core.specs.declared.instruction.Inst.TheVariants.{Call}
-use Rattle.ir_core.specs.Values.{Value, body_values, constant_index}
+use Rattle.ir_core.specs.Values.{Value, body_values, integer_at, instructions}
 
 -- the opcode of a call: the number of its first argument, where that is a constant
 abbrev pub call_opcode : Module → List Value → Inst → Option ℕ
-call_opcode m values (Call function (opcode ∷ args)) = constant_index m.types (slice_get values opcode)
+call_opcode m values (Call function (opcode ∷ args)) = integer_at m.types values opcode
 call_opcode m values _ = None
 
 abbrev pub is_wave_opcode : Option ℕ → Bool
@@ -25,7 +25,7 @@ any_wave m values (inst ∷ insts) =
 abbrev pub body_uses_waves : Module → Function → Option Body → Bool
 body_uses_waves m f None = false
 body_uses_waves m f (Some body) =
-    any_wave m (body_values m f body) (flat_map (λ block. block.insts) body.blocks)
+    any_wave m (body_values m f body) (instructions body)
 
 abbrev pub any_body_uses_waves : Module → List Function → Bool
 any_body_uses_waves m [] = false

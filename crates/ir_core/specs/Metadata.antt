@@ -1,10 +1,10 @@
 -- The metadata of a DXIL module: what it says of resources and threads, and which metadata a compute
 -- shader has (DXIL.rst, "Metadata" of the shader, of resources and of entry points).
-use Rattle.std.specs.Prelude.{◌≡◌, ℕ, ◌+◌, List, [], ◌∷◌, ◌++◌, map, filter, Bool, true, false, ◌==◌, if◌then◌else◌, Option, Some, None, IsSome, slice_get, codes, All, Contains}
+use Rattle.std.specs.Prelude.{◌≡◌, ℕ, ◌+◌, List, [], ◌∷◌, ◌++◌, map, filter, Bool, ◌==◌, if◌then◌else◌, Option, Some, None, IsSome, codes, All, Contains}
 use Rattle.lane_core.specs.Lane.{Coordinates}
 use Rattle.ir_core.specs.declared.module.Function.{Function}
 use Rattle.ir_core.specs.declared.module.Module.{Module}
-use Rattle.ir_core.specs.MetadataTree.{Tree, a_text, a_number, an_undef_pointer, a_function, a_node, another, Children, no_children, a_null, a_child, node, named_trees, child, parts, number, trees_among}
+use Rattle.ir_core.specs.MetadataTree.{Tree, a_text, a_number, an_undef_pointer, a_function, another, Children, a_child, node, named_trees, child, parts, number, trees_among}
 use Rattle.ir_core.specs.Values.{function_at}
 use Rattle.ir_core.specs.Waves.{uses_waves}
 

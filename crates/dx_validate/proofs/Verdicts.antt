@@ -6,15 +6,16 @@ use Rattle.ir_core.specs.declared.module.Module.{Module}
 use Rattle.ir_core.specs.declared.module.Ty.{Ty}
 use Rattle.ir_core.specs.declared.module.Ty.TheVariants.{Int}
 use Rattle.ir_core.specs.declared.spot.Spot.{Spot}
+use Rattle.ir_core.specs.Metadata.{dxil_triple}
 use Rattle.ir_core.specs.Spots.{module_spot, type_spot, function_spot, named_spot}
-use Rattle.ir_core.specs.ValidatorRules.{Breaks, other_triple, unknown_name, odd_width, no_body, second_body, body_with_parts, shader_triple, HasBodyAt, IsPlain}
+use Rattle.ir_core.specs.ValidatorRules.{Breaks, other_triple, unknown_name, odd_width, no_body, second_body, body_with_parts, HasBodyAt, IsPlain}
 use Rattle.dx_validate.specs.Places.{FailsAt, HasKnownName, HasFineWidth}
 use Rattle.dx_validate.specs.Bodies.{IsWrongAt}
 use Rattle.dx_validate.specs.Verdict.{IsVerdict, IsSpotless, IsAtOrBefore}
 
 -- what each rule rests on
 abbrev pub HasTriple : Module → Type 0
-HasTriple m = m.triple ≡ shader_triple
+HasTriple m = m.triple ≡ dxil_triple
 
 abbrev pub KnowsNames : Module → Type 0
 KnowsNames m = (k : ℕ) → FailsAt HasKnownName m.named k → ⊥

@@ -1,7 +1,8 @@
 //! One search for each rule: where a module breaks it first.
 
 ghost use Rattle.std.specs.Prelude.{◌≡◌, ◌↔◌, ◌<◌, IsTrue, IfSome, length};
-ghost use Rattle.ir_core.specs.ValidatorRules.{IsKnownName, IsPlain, shader_triple};
+ghost use Rattle.ir_core.specs.Metadata.{dxil_triple};
+ghost use Rattle.ir_core.specs.ValidatorRules.{IsKnownName, IsPlain};
 ghost use Rattle.dx_validate.specs.Places.{IsFirstFailure, HasKnownName, HasFineWidth};
 ghost use Rattle.dx_validate.specs.Bodies.{IsFirstBodyFault, IsWithin};
 
@@ -12,7 +13,7 @@ const SHADER_TRIPLE: &[u8] = b"dxil-ms-dx";
 
 /// Whether a triple is that of a shader.
 pub fn is_shader_triple(triple: &[u8]) -> bool
-    ensures { IsTrue result ↔ (triple.now ≡ shader_triple) }
+    ensures { IsTrue result ↔ (triple.now ≡ dxil_triple) }
 {
     triple == SHADER_TRIPLE
 }

@@ -8,11 +8,8 @@ use Rattle.ir_core.specs.declared.module.Ty.{Ty}
 use Rattle.ir_core.specs.declared.module.Ty.TheVariants.{Int, Function as FunctionTy, Void}
 use Rattle.ir_core.specs.declared.instruction.Body.{Body}
 use Rattle.ir_core.specs.declared.spot.Spot.{Spot}
+use Rattle.ir_core.specs.Metadata.{dxil_triple}
 use Rattle.ir_core.specs.Spots.{module_spot, type_spot, function_spot, named_spot}
-
--- the target triple of a shader
-abbrev pub shader_triple : List ℕ
-shader_triple = codes "dxil-ms-dx"
 
 -- the text begins with the prefix
 abbrev pub BeginsWith : List ℕ → List ℕ → Type 0
@@ -41,7 +38,7 @@ IsPlain types number = (result : ℕ) × (slice_get types number ≡ Some (Funct
 -- the module breaks the rule at the spot
 pub data Breaks (m : Module) : ℕ → Spot → Type 0 where
   -- 1, META.TARGET: the triple is that of a shader; the layout is free
-  other_triple : m.triple ≢ shader_triple → Breaks m 1 module_spot
+  other_triple : m.triple ≢ dxil_triple → Breaks m 1 module_spot
   -- 3, META.KNOWN: each named metadata begins with `dx.` or `llvm.`
   unknown_name : (place : ℕ) (named : Named) → slice_get m.named place ≡ Some named → ¬ IsKnownName named.name →
       Breaks m 3 (named_spot place)

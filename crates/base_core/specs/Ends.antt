@@ -1,5 +1,5 @@
 -- The two ends of a program in memory, and the words on what one call of an end does.
-use Rattle.std.specs.Prelude.{◌≡◌, ℕ, ◌+◌, ◌<◌, min, List, length, drop, take, MatchResult}
+use Rattle.std.specs.Prelude.{◌≡◌, ℕ, ◌+◌, ◌-◌, ◌<◌, ◌≤◌, ◌⊎◌, min, List, ◌++◌, length, drop, take, Contains, MatchResult}
 use Rattle.std.specs.declared.result.Result.{Result}
 use Rattle.std.specs.declared.option.Option.{Option}
 use Rattle.std.specs.Io.KnownBytes.{Appends, Consumes}
@@ -58,3 +58,19 @@ pub record MemoryOutput : Type 0 where
   pub failing : List ℕ
   pub calls : ℕ
   pub faults : ℕ
+
+-- why a call on a sink in memory fails: its number is listed, or there is no room for a byte that it was given
+abbrev pub OutputFails : MemoryOutput → List ℕ → Type 0
+OutputFails s bytes = Contains s.failing s.calls ⊎ ((0 < length bytes) × (s.room ≤ length s.written))
+
+-- how many bytes a call takes that doesn't fail and is given `given`
+abbrev pub output_length : MemoryOutput → ℕ → ℕ
+output_length s given = min (min given s.piece) (s.room - length s.written)
+
+-- after a call that took these bytes
+abbrev pub output_given : MemoryOutput → List ℕ → MemoryOutput
+output_given s bytes = record s { written = s.written ++ bytes; calls = next_count s.calls }
+
+-- after a call that failed
+abbrev pub output_failed : MemoryOutput → MemoryOutput
+output_failed s = record s { calls = next_count s.calls; faults = next_count s.faults }

@@ -10,6 +10,8 @@ pub mod plain_source;
 pub mod sequence;
 pub mod sink;
 pub mod source;
+#[cfg(test)]
+mod tests;
 pub mod whole;
 
 pub use host::{HostSink, HostSource};

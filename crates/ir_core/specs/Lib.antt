@@ -5,3 +5,7 @@ pub mod Values
 pub mod Waves
 pub mod MetadataTree
 pub mod Metadata
+pub mod Operations
+pub mod Machine
+pub mod Calls
+pub mod ModuleLane

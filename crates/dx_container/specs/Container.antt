@@ -51,6 +51,12 @@ pub record IsOnlyProgram (bytes : List ℕ) (k : ℕ) : Type 0 where
   pub program : IsProgram bytes k
   pub only : (j : ℕ) → IsProgram bytes j → j ≡ k
 
+-- the one part with the name `DXIL` stands at this place
+pub record StandsAt (bytes : List ℕ) (part : ℕ) : Type 0 where
+  pub index : ℕ
+  pub only : IsOnlyProgram bytes index
+  pub place-is : part ≡ part_place bytes index
+
 -- the fields of the part `DXIL` that stands at a place
 
 -- the program version: the kind of shader from bit 16 up, the major version in the bits 4 to 15, the
@@ -91,6 +97,11 @@ pub data ProgramFault (bytes : List ℕ) (part : ℕ) : (offset : ℕ) → Type 
   other_name : name_at bytes (part + 16) ≢ program_name → ProgramFault bytes part (part + 16)
   bitcode_elsewhere : bitcode_place bytes part ≢ 16 → ProgramFault bytes part (part + 24)
   long_bitcode : body_size bytes part < 24 + bitcode_size bytes part → ProgramFault bytes part (part + 28)
+
+-- the fault of the first field that has one, by its place
+pub record FirstProgramFault (bytes : List ℕ) (part offset : ℕ) : Type 0 where
+  pub holds : ProgramFault bytes part offset
+  pub nearest : (o : ℕ) → ProgramFault bytes part o → offset ≤ o
 
 -- what can be wrong in a container, by its kind and its place:
 -- 1 no room for a header, at the end; 2 another name; 3 other version numbers than 1 and 0; 4 another

@@ -1,1 +1,2 @@
 pub mod SteadyMachine
+pub mod Runs

@@ -1,10 +1,9 @@
 -- A run of a module that is over stays over, and its events only grow.
-use Rattle.std.proofs.Common.{◌≡◌, ℕ, zero, suc, ◌+◌, List, [], ◌∷◌, ◌++◌, Option, Some, None, refl, sym, ap, ◌∙◌, subst, arith}
-use Rattle.std.specs.Prelude.{◌≢◌}
+use Rattle.std.proofs.Common.{◌≡◌, ℕ, zero, suc, ◌+◌, List, [], ◌∷◌, Option, Some, None, refl, subst}
 use Rattle.lane_core.specs.declared.event.Event.{Event}
 use Rattle.lane_core.specs.declared.event.Reply.{Reply}
-use Rattle.lane_core.specs.declared.event.Asked.TheVariants.{Asks, Goes}
-use Rattle.lane_core.specs.Lane.{Coordinates, Lane, LaneMeaning, Run, Exchange, standing, ask_with}
+use Rattle.lane_core.specs.declared.event.Asked.TheVariants.{Goes}
+use Rattle.lane_core.specs.Lane.{Coordinates, Lane, Run, standing, ask_with}
 use Rattle.lane_core.specs.SameLane.{IsPrefix}
 use Rattle.lane_core.proofs.Follows.{GrowsTo, Steady, grows_refl, prefix_refl, prefix_trans}
 use Rattle.ir_core.specs.declared.module.Function.{Function}
@@ -13,7 +12,7 @@ use Rattle.ir_core.specs.declared.instruction.Body.{Body}
 use Rattle.ir_core.specs.declared.instruction.Inst.{Inst}
 use Rattle.ir_core.specs.declared.instruction.Inst.TheVariants.{Bin, Cast, Cmp, Select, Phi, Alloca, Gep, Load, Store, Extract, Call, Rmw, CmpXchg, Jump, Branch, Ret}
 use Rattle.ir_core.specs.Metadata.{Resource, resources_of, threads_of}
-use Rattle.ir_core.specs.Operations.{Operation, create_handle, buffer_store, operation_of}
+use Rattle.ir_core.specs.Operations.{Operation, create_handle, buffer_store}
 use Rattle.ir_core.specs.Machine.{Setting, State, Turn, is_wrong, stands, goes_on, first_state, given, gives, asks}
 use Rattle.ir_core.specs.Calls.{create_handle_content, buffer_store_event, operation_turn, operation_called, call_turn}
 use Rattle.ir_core.specs.ModuleLane.{instruction_turn, instruction_at, next_turn, after, run, body_lane, lane_with, module_lane}

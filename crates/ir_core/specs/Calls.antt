@@ -18,7 +18,7 @@ resource_at resources class id register =
 abbrev pub handle_at : ℕ → Resource → BufferHandle
 handle_at register r = record {
   slot = record { class = r.class; space = r.space; register = register };
-  kind = r.kind
+  kind = r.kind;
 }
 
 -- CreateHandle: i8 class, i32 number in the class, i32 register, i1 whether the register isn't uniform

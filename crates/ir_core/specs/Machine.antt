@@ -1,5 +1,5 @@
 -- The machine that runs a body: its registers, where it stands, and what an instruction makes of it.
-use Rattle.std.specs.Prelude.{ℕ, ◌+◌, List, [], filter, flat_map, take, length, ◌==◌, if◌then◌else◌, Option, Some, None, option_map, option_and_then, slice_get}
+use Rattle.std.specs.Prelude.{ℕ, ◌+◌, List, filter, flat_map, take, length, ◌==◌, if◌then◌else◌, Option, Some, None, option_map, option_and_then, slice_get}
 use Rattle.lane_core.specs.declared.event.Event.{Event}
 use Rattle.lane_core.specs.declared.event.Reply.{Reply}
 use Rattle.lane_core.specs.declared.event.Slot.{Slot}
@@ -83,7 +83,7 @@ first_state s replies = record {
   next = first_value s.m s.function s.body 0;
   came_from = None;
   registers = first_registers s.m.types (body_values s.m s.function s.body);
-  exchange = first_exchange replies
+  exchange = first_exchange replies;
 }
 
 -- goes on with what was read, if it is there
@@ -117,7 +117,7 @@ abbrev pub gives : State → Content → Turn
 gives state content = goes_on record state {
   place = state.place + 1;
   next = state.next + 1;
-  registers = with_register state.registers state.next content
+  registers = with_register state.registers state.next content;
 }
 
 -- past an instruction without a value that asks an event, once its reply is there

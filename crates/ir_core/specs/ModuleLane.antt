@@ -2,11 +2,10 @@
 -- Reference, "Instruction Reference").
 use Rattle.std.specs.Prelude.{ℕ, zero, suc, List, [], ◌∷◌, Option, Some, None, option_and_then, slice_get}
 use Rattle.lane_core.specs.declared.event.Asked.TheVariants.{Goes}
-use Rattle.lane_core.specs.Lane.{Coordinates, Lane, LaneMeaning, Run, Exchange, standing}
+use Rattle.lane_core.specs.Lane.{Coordinates, LaneMeaning, Run, standing}
 use Rattle.ir_core.specs.declared.module.Function.{Function}
 use Rattle.ir_core.specs.declared.module.Module.{Module}
 use Rattle.ir_core.specs.declared.instruction.Body.{Body}
-use Rattle.ir_core.specs.declared.instruction.Arm.{Arm}
 use Rattle.ir_core.specs.declared.instruction.Inst.{Inst}
 use Rattle.ir_core.specs.declared.instruction.Inst.TheVariants.{Bin, Cast, Cmp, Select, Phi, Alloca, Gep, Load, Store, Extract, Call, Rmw, CmpXchg, Jump, Branch, Ret}
 use Rattle.ir_core.specs.Metadata.{Resource, resources_of, threads_of}

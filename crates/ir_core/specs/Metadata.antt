@@ -109,7 +109,7 @@ class_parts r =
 abbrev pub resource_node : NamedResource → Tree
 resource_node named =
     let r = named.resource in
-    node (i32 r.id ∷ Some an_undef_pointer ∷ Some (a_text named.name) ∷ i32 r.space ∷ i32 r.register ∷ i32 1 ∷ i32 r.kind ∷ class_parts r)
+    node (i32 r.id ∷ Some an_undef_pointer ∷ Some (a_text named.name) ∷ i32 r.space ∷ i32 r.register ∷ i32 r.size ∷ i32 r.kind ∷ class_parts r)
 
 -- null, or a node of trees
 abbrev pub list_part : List Tree → Option Tree

@@ -1,7 +1,7 @@
 -- What a container holds is determined by its bytes.
-use Rattle.std.proofs.Common.{◌≡◌, ◌≢◌, ℕ, ◌<◌, List, sym, ap, ◌∙◌, arith}
-use Rattle.dx_container.specs.Container.{HasFault, IsProgram, no_only_program, bitcode_at, major_version, minor_version, part_place}
-use Rattle.dx_container.specs.Laws.{AtMostOneContent}
+use Rattle.std.proofs.Common.{subst, ◌≡◌, ◌≢◌, ℕ, ◌<◌, List, sym, ap, ◌∙◌, arith}
+use Rattle.dx_container.specs.Container.{FaultIs, HasFault, IsProgram, no_only_program, bitcode_at, major_version, minor_version, part_place}
+use Rattle.dx_container.specs.Laws.{AtMostOneContent, AtMostOneFault, ContainedHasNoFault}
 
 -- where two parts have the name `DXIL`, bytes have a fault
 two_programs : (bytes : List ℕ) (j k : ℕ) → IsProgram bytes j → IsProgram bytes k → j ≢ k → HasFault bytes 7 28
@@ -22,3 +22,21 @@ at_most_one bytes bitcode other major minor other_major other_minor one two =
       one.major-is ∙ ap (λ (k : ℕ). major_version bytes (part_place bytes k)) e ∙ sym two.major-is,
       one.minor-is ∙ ap (λ (k : ℕ). minor_version bytes (part_place bytes k)) e ∙ sym two.minor-is,
     )
+
+pub no_first_fault : ContainedHasNoFault
+no_first_fault bytes bitcode major minor kind offset held fault = held.faultless kind offset fault.holds
+
+-- under one kind, one place
+one_place : (bytes : List ℕ) (kind offset other : ℕ) → FaultIs bytes kind offset → FaultIs bytes kind other → offset ≡ other
+one_place bytes kind offset other one two =
+    let a = one.nearest other two.holds in
+    let b = two.nearest offset one.holds in
+    omega arith
+
+pub one_fault : AtMostOneFault
+one_fault bytes kind offset other_kind other_offset one two =
+    let a = one.first other_kind other_offset two.holds in
+    let b = two.first kind offset one.holds in
+    let e : kind ≡ other_kind = omega arith in
+    let same : FaultIs bytes other_kind offset = subst (λ (k : ℕ). FaultIs bytes k offset) e one in
+    (e, one_place bytes other_kind offset other_offset same two)

@@ -1,0 +1,1 @@
+//! The module of a kernel of literal stores.

@@ -9,10 +9,11 @@ use Rattle.ir_core.specs.declared.module.GlobalVar.{GlobalVar}
 use Rattle.ir_core.specs.declared.module.Meta.{Meta}
 use Rattle.ir_core.specs.declared.module.Named.{Named}
 use Rattle.ir_core.specs.declared.module.Module.{Module}
-use Rattle.dxil_driver.specs.Emitted.{triple_text, layout_text, emitted_types, emitted_body, emitted_functions, emitted_constants, emitted_metas, emitted_named, emitted_module, words_from, Picks, IsEmitted}
+use Rattle.ir_core.specs.Metadata.{dxil_triple, dxil_layout}
+use Rattle.dxil_driver.specs.Emitted.{emitted_types, emitted_body, emitted_functions, emitted_constants, emitted_metas, emitted_named, emitted_module, words_from, Picks, IsEmitted}
 use Rattle.dxil_driver.specs.declared.stores.LiteralStore.{LiteralStore}
 
-pub assembled : (buffer : Option (List ℕ)) (threads words : List ℕ) (pairs : List (ℕ × ℕ)) (triple layout : List ℕ) (types : List Ty) (globals : List GlobalVar) (body : Body) (functions : List Function) (consts : List Const) (metas : List Meta) (named : List Named) → triple ≡ triple_text → layout ≡ layout_text → types ≡ emitted_types buffer → globals ≡ [] → body ≡ emitted_body buffer words pairs → functions ≡ emitted_functions buffer body → consts ≡ emitted_constants buffer threads → metas ≡ emitted_metas buffer → named ≡ emitted_named buffer → (let m : Module = record { triple = triple; layout = layout; types = types; globals = globals; functions = functions; consts = consts; metas = metas; named = named } in m) ≡ emitted_module buffer threads words pairs
+pub assembled : (buffer : Option (List ℕ)) (threads words : List ℕ) (pairs : List (ℕ × ℕ)) (triple layout : List ℕ) (types : List Ty) (globals : List GlobalVar) (body : Body) (functions : List Function) (consts : List Const) (metas : List Meta) (named : List Named) → triple ≡ dxil_triple → layout ≡ dxil_layout → types ≡ emitted_types buffer → globals ≡ [] → body ≡ emitted_body buffer words pairs → functions ≡ emitted_functions buffer body → consts ≡ emitted_constants buffer threads → metas ≡ emitted_metas buffer → named ≡ emitted_named buffer → (let m : Module = record { triple = triple; layout = layout; types = types; globals = globals; functions = functions; consts = consts; metas = metas; named = named } in m) ≡ emitted_module buffer threads words pairs
 unfolding emitted_module
 assembled buffer threads words pairs triple layout types globals body functions consts metas named t l ty g b f c m n =
     rw t (rw l (rw ty (rw g (rw f (rw b (rw c (rw m (rw n refl))))))))

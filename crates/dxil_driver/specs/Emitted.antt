@@ -18,13 +18,8 @@ use Rattle.ir_core.specs.declared.module.Meta.{Meta}
 use Rattle.ir_core.specs.declared.module.Meta.TheVariants.{Chars, Value, Node}
 use Rattle.ir_core.specs.declared.module.Named.{Named}
 use Rattle.ir_core.specs.declared.module.Module.{Module}
+use Rattle.ir_core.specs.Metadata.{dxil_triple, dxil_layout}
 use Rattle.dxil_driver.specs.declared.stores.LiteralStore.{LiteralStore}
-
-abbrev pub triple_text : List ℕ
-triple_text = codes "dxil-ms-dx"
-
-abbrev pub layout_text : List ℕ
-layout_text = codes "e-m:e-p:32:32-i1:32-i8:32-i16:32-i32:32-i64:64-f16:32-f32:32-f64:64-n8:16:32:64"
 
 -- types: 0 void, 1 i32, 2 i64, 3 void (), 4 a pointer to 3
 abbrev pub plain_types : List Ty
@@ -178,7 +173,7 @@ emitted_named (Some name) = version_names ++ (named_node (codes "dx.resources") 
 -- `words` of a store's address and word
 unfoldable pub emitted_module : Option (List ℕ) → (threads : List ℕ) (words : List ℕ) (pairs : List (ℕ × ℕ)) → Module
 emitted_module buffer threads words pairs =
-    record { triple = triple_text; layout = layout_text; types = emitted_types buffer; globals = []; functions = emitted_functions buffer (emitted_body buffer words pairs); consts = emitted_constants buffer threads; metas = emitted_metas buffer; named = emitted_named buffer }
+    record { triple = dxil_triple; layout = dxil_layout; types = emitted_types buffer; globals = []; functions = emitted_functions buffer (emitted_body buffer words pairs); consts = emitted_constants buffer threads; metas = emitted_metas buffer; named = emitted_named buffer }
 
 -- a place in the words for a number: the words with it, which stay as they are where it is among them
 abbrev pub with_word : List ℕ → ℕ → List ℕ

@@ -1,0 +1,5 @@
+RWByteAddressBuffer o : register(u0);
+[numthreads(1,1,1)]
+void main() {
+  o.Store(0, 7);
+}

@@ -139,3 +139,40 @@ with_first (Some first) text others = (first.0 ∷ (others first.1).0, (others f
 unfoldable pub statements_at : ℕ → List ℕ → List ℕ → List LiteralStore × List ℕ
 statements_at zero name text = ([], text)
 statements_at (suc most) name text = with_first (statement_at name text) text (statements_at most name)
+
+-- so many statements fill the tokens that a text may have
+abbrev pub most_statements : ℕ
+most_statements = 29124
+
+abbrev pub stores_at : Option (List ℕ) → List ℕ → List LiteralStore × List ℕ
+stores_at None text = ([], text)
+stores_at (Some name) text = statements_at most_statements name text
+
+-- whether nothing but the last brace and spaces is left
+abbrev pub is_blank : List ℕ → Bool
+is_blank [] = true
+is_blank (byte ∷ bytes) = false
+
+abbrev pub ends_behind : Option (List ℕ) → Bool
+ends_behind None = false
+ends_behind (Some rest) = is_blank (after_spaces rest)
+
+unfoldable pub is_end : List ℕ → Bool
+is_end text = ends_behind (mark_after 125 text)
+
+unfoldable pub head_at : List ℕ → Option (Option (List ℕ) × List ℕ × List ℕ)
+head_at text = do
+  declaration ← declaration_at text
+  threads ← threads_at declaration.1
+  rest ← opening_after threads.1
+  Some (declaration.0, threads.0, rest)
+
+-- the form of a text whose head was read
+abbrev pub form_behind : Option (List ℕ) → List ℕ → List LiteralStore × List ℕ → Option FirstForm
+form_behind buffer threads found =
+    if is_end found.1 then Some (record { buffer = buffer; threads = threads; stores = found.0 }) else None
+
+unfoldable pub form_at : List ℕ → Option FirstForm
+form_at text = do
+  head ← head_at text
+  form_behind head.0 head.1 (stores_at head.0 head.2)

@@ -1,5 +1,6 @@
 //! The compiler as a library.
 #![tactic(auto)]
 
+mod first_form;
 mod scan;
 mod stores;

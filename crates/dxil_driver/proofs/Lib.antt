@@ -1,3 +1,4 @@
 pub mod Parts
+pub mod Recognised
 pub mod Scanned
 pub mod Statements

@@ -21,6 +21,12 @@ pub begins_append : (text : List ℕ) (front : List Token) (middle : List ℕ) (
 begins_append text [] middle back after one other = rw one other
 begins_append text (token ∷ front) middle back after one other = (one.0, one.1, begins_append one.0 front middle back after one.2 other)
 
+pub begins_at : (text : List ℕ) (front back : List Token) (after : List ℕ) → Begins text (front ++ back) after → (middle : List ℕ) × Begins text front middle × Begins middle back after
+begins_at text [] back after b = (text, refl, b)
+begins_at text (token ∷ front) back after b =
+    let rest = begins_at b.0 front back after b.2 in
+    (rest.0, (b.0, b.1, rest.1), rest.2)
+
 pub cut_append : (text : List ℕ) (front : List Token) (middle : List ℕ) (back : List Token) → Begins text front middle → IsCut middle back → IsCut text (front ++ back)
 cut_append text [] middle back one other = rw one other
 cut_append text (token ∷ front) middle back one other = (one.0, one.1, cut_append one.0 front middle back one.2 other)

@@ -77,11 +77,11 @@ mark_is_no_part byte h = grind (arith, nat_tests)
 -- ---- spaces, and the run behind them
 
 -- behind the spaces
-spaces_passed : (spaces rest : List ℕ) → Each is_space spaces → Ends is_space rest → after_spaces (spaces ++ rest) ≡ rest
+pub spaces_passed : (spaces rest : List ℕ) → Each is_space spaces → Ends is_space rest → after_spaces (spaces ++ rest) ≡ rest
 unfolding after_spaces
 spaces_passed spaces rest blank ends = drop_front is_space spaces rest blank ends
 
-spaces_before : (text : List ℕ) → (spaces : List ℕ) × (text ≡ spaces ++ after_spaces text) × Each is_space spaces
+pub spaces_before : (text : List ℕ) → (spaces : List ℕ) × (text ≡ spaces ++ after_spaces text) × Each is_space spaces
 unfolding after_spaces
 spaces_before text = (take (front is_space text) text, sym (take-append-drop (front is_space text) text), each_front is_space text)
 

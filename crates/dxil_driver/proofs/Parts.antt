@@ -1,13 +1,12 @@
 -- The parts of a text of the first form, as they are read and as they are spelled.
-use Rattle.std.proofs.Common.{◌≡◌, ℕ, zero, suc, ◌+◌, ◌*◌, ◌≤◌, Bool, true, false, cond, leb, ◌&&◌, List, [], ◌∷◌, ◌++◌, length, Option, Some, None, refl, sym, ap, subst, ◌∙◌, arith}
-use Rattle.std.specs.List.{flat_map}
+use Rattle.std.proofs.Common.{◌≡◌, ℕ, ◌*◌, true, cond, leb, List, [], ◌∷◌, ◌++◌, Option, Some, None, refl, ap, subst}
 use Rattle.std.specs.Prelude.{codes}
-use Rattle.std.proofs.lemmas.Bool.{leb-true, le-leb, and_parts, and_from}
+use Rattle.std.proofs.lemmas.Bool.{leb-true, le-leb, and_parts}
 use Rattle.std.proofs.lemmas.Option.{same_Some}
 use Rattle.dxil_driver.specs.declared.stores.LiteralStore.{LiteralStore}
-use Rattle.dxil_driver.specs.Tokens.{Token, a_word, a_number, a_mark, is_letter, is_part, is_mark, Each, is_space, IsWord, BeginsWith, IsCut}
-use Rattle.dxil_driver.specs.FirstForm.{open_round, close_round, comma, dot, colon, semicolon, open_square, close_square, open_brace, close_brace, declaration_tokens, threads_tokens, opening_tokens, statement_tokens, HasBuffer, IsGroupSize}
-use Rattle.dxil_driver.specs.Reading.{◌>>=◌, after_spaces, mark_after, word_after, number_at, name_at, declared_at, declaration_at, is_group_size, threads_at, opening_after, statement_at, statements_at, with_first}
+use Rattle.dxil_driver.specs.Tokens.{Token, a_word, is_letter, is_part, is_mark, IsWord, BeginsWith, IsCut}
+use Rattle.dxil_driver.specs.FirstForm.{open_round, close_round, colon, semicolon, threads_tokens, opening_tokens, statement_tokens, HasBuffer, IsGroupSize}
+use Rattle.dxil_driver.specs.Reading.{◌>>=◌, mark_after, word_after, number_at, name_at, declared_at, is_group_size, threads_at, opening_after, statement_at}
 use Rattle.dxil_driver.proofs.Scanned.{bind_some, guard_some, word_found, word_stands, mark_found, mark_stands, number_found, number_stands, IsBufferName, name_found, name_stands}
 
 -- ---- lists of tokens

@@ -1,8 +1,7 @@
 -- What the scanners read is the token that the text begins with, and no other.
-use Rattle.std.proofs.Common.{◌≡◌, ℕ, zero, suc, ◌+◌, ◌-◌, ◌*◌, ◌≤◌, ◌<◌, Bool, true, false, cond, eqb, leb, not, ◌&&◌, List, [], ◌∷◌, ◌++◌, length, take, drop, Option, Some, None, refl, sym, ap, subst, ◌∙◌, append_assoc, arith}
+use Rattle.std.proofs.Common.{◌≡◌, ℕ, suc, ◌+◌, ◌-◌, ◌*◌, ◌≤◌, Bool, true, false, cond, eqb, leb, not, ◌&&◌, List, [], ◌∷◌, ◌++◌, length, take, drop, Option, Some, None, refl, sym, ap, subst, ◌∙◌, arith}
 use Rattle.std.specs.List.{AllByRecursion, list_any}
-use Rattle.std.specs.Char.{is_ascii_digit, is_ascii_alphabetic}
-use Rattle.std.specs.Str.{bytes_eq}
+use Rattle.std.specs.Char.{is_ascii_digit}
 use Rattle.std.specs.Prelude.{codes, nat_eq}
 use lib.Pointwise.{pointwise}
 use Rattle.std.proofs.lemmas.Bool.{eqb-true, eq-eqb, leb-true, le-leb, and_parts, not-true, or_parts, or_from, both_ways, false_from_ne_true}
@@ -10,7 +9,7 @@ use Rattle.std.proofs.lemmas.Bool.Decides.{nat_tests}
 use Rattle.std.proofs.lemmas.Slice.Eq.{bytes_eq-Decides}
 use Rattle.std.proofs.lemmas.Option.{same_Some}
 use Rattle.std.proofs.lemmas.List.{take_at, drop_at, take-append-drop}
-use Rattle.dxil_driver.specs.Tokens.{Token, a_word, a_number, a_mark, is_space, is_letter, is_part, is_mark, Each, Ends, IsWord, IsDecimal, decimal_behind, greatest_number, IsTextOf, StopsBefore, BeginsWith}
+use Rattle.dxil_driver.specs.Tokens.{a_word, a_number, a_mark, is_space, is_letter, is_part, is_mark, Each, Ends, IsWord, IsDecimal, decimal_behind, greatest_number, BeginsWith}
 use Rattle.dxil_driver.specs.FirstForm.{reserved_words, HasBuffer}
 use Rattle.dxil_driver.specs.Reading.{◌>>=◌, front, after_spaces, run_at, after_run, behind_first, mark_after, word_after, digits_behind, decimal_of, number_at, is_reserved, is_buffer_name, name_at}
 
@@ -102,9 +101,10 @@ run_each (first ∷ others) is_run = is_run
 run_found : (text spaces own after : List ℕ) → text ≡ spaces ++ (own ++ after) → Each is_space spaces → IsRun own → Ends is_part after → (run_at text ≡ own) × (after_run text ≡ after)
 unfolding run_at after_run
 run_found text spaces own after parts blank is_run ends =
-    let passed : after_spaces text ≡ own ++ after = ap after_spaces parts ∙ spaces_passed spaces (own ++ after) blank (run_begins own after is_run) in
-    (ap (λ (bytes : List ℕ). take (front is_part bytes) bytes) passed ∙ take_front is_part own after (run_each own is_run) ends,
-     ap (λ (bytes : List ℕ). drop (front is_part bytes) bytes) passed ∙ drop_front is_part own after (run_each own is_run) ends)
+    let passed : after_spaces text ≡ own ++ after = ap after_spaces parts ∙ spaces_passed spaces (own ++ after) blank (run_begins own after is_run) in (
+      ap (λ (bytes : List ℕ). take (front is_part bytes) bytes) passed ∙ take_front is_part own after (run_each own is_run) ends,
+      ap (λ (bytes : List ℕ). drop (front is_part bytes) bytes) passed ∙ drop_front is_part own after (run_each own is_run) ends,
+    )
 
 -- where a run that was found stands
 record Stands (text own after : List ℕ) : Type 0 where

@@ -1,8 +1,8 @@
 -- Reading statements one after the other, as a loop does.
-use Rattle.std.proofs.Common.{◌≡◌, ℕ, suc, ◌-◌, ◌+◌, ◌≤◌, ◌<◌, List, [], ◌∷◌, ◌++◌, Option, Some, None, refl, sym, ap, ◌∙◌, append_assoc, arith}
+use Rattle.std.proofs.Common.{◌≡◌, ℕ, suc, ◌-◌, ◌+◌, ◌≤◌, ◌<◌, List, [], ◌∷◌, ◌++◌, Some, None, sym, ap, ◌∙◌, append_assoc, arith}
 use Rattle.std.proofs.lemmas.List.{append-nil}
 use Rattle.dxil_driver.specs.declared.stores.LiteralStore.{LiteralStore}
-use Rattle.dxil_driver.specs.Reading.{statement_at, statements_at, with_first}
+use Rattle.dxil_driver.specs.Reading.{statement_at, statements_at}
 
 -- what was read before, and what is still read
 abbrev pub with_front : List LiteralStore → List LiteralStore × List ℕ → List LiteralStore × List ℕ
@@ -15,7 +15,7 @@ goes_on front most i name text store behind total lt h so_far =
     let k : most - i ≡ suc (most - (i + 1)) = omega arith in
     let others : List LiteralStore × List ℕ = statements_at (most - (i + 1)) name behind in
     let one : with_front front (statements_at (most - i) name text) ≡ with_front (front ++ store ∷ []) (statements_at (most - (i + 1)) name behind) =
-        rw (k, h) (ap (λ (ss : List LiteralStore). (ss, others.1)) (sym (append_assoc front (store ∷ []) others.0))) in
+    rw (k, h) (ap (λ (ss : List LiteralStore). (ss, others.1)) (sym (append_assoc front (store ∷ []) others.0))) in
     sym one ∙ so_far
 
 pub stops : (front : List LiteralStore) (most i : ℕ) (name text : List ℕ) (total : List LiteralStore × List ℕ) → i < most → statement_at name text ≡ None
@@ -24,7 +24,7 @@ unfolding statements_at
 stops front most i name text total lt h so_far =
     let k : most - i ≡ suc (most - (i + 1)) = omega arith in
     let one : with_front front (statements_at (most - i) name text) ≡ (front, text) =
-        rw (k, h) (ap (λ (ss : List LiteralStore). (ss, text)) (append-nil front)) in
+    rw (k, h) (ap (λ (ss : List LiteralStore). (ss, text)) (append-nil front)) in
     sym one ∙ so_far
 
 pub is_done : (front : List LiteralStore) (most i : ℕ) (name text : List ℕ) (total : List LiteralStore × List ℕ) → most ≤ i

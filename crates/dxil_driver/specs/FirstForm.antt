@@ -3,7 +3,7 @@ use Rattle.std.specs.Prelude.{◌≡◌, ℕ, ◌*◌, ◌≤◌, List, [], ◌�
 use Rattle.std.specs.List.{flat_map, AllByRecursion}
 use Rattle.dxil_driver.specs.declared.stores.LiteralStore.{LiteralStore}
 use Rattle.dxil_driver.specs.declared.stores.FirstForm.{FirstForm}
-use Rattle.dxil_driver.specs.Tokens.{Token, a_word, a_number, a_mark, IsWord, IsCut}
+use Rattle.dxil_driver.specs.Tokens.{Token, a_word, a_number, a_mark, IsCut}
 
 -- the words that the language keeps for itself, which are no names
 unfoldable pub reserved_words : List (List ℕ)

@@ -1,7 +1,9 @@
 //! Recognises a text of the first form: a main of literal stores to one byte-address buffer.
 
-ghost use Rattle.std.specs.Prelude.{◌≡◌, IfOk, IfSome, IfNone, ◌∷◌, []};
+ghost use Rattle.std.specs.Prelude.{◌≡◌, ℕ, List, IfOk, IfSome, IfNone};
 ghost use Rattle.std.specs.Option.{option_map};
+ghost use Rattle.dxil_driver.specs.declared.stores.FirstForm.{FirstForm};
+ghost use Rattle.dxil_driver.specs.FirstForm.{IsFirstForm};
 ghost use Rattle.dxil_driver.specs.Reading.{Reads, declared_at, declaration_at, is_group_size, threads_at, opening_after, statement_at, statements_at, stores_at, head_at, form_at, is_end};
 
 use crate::scan::{buffer_name, mark, number, skip_spaces, word};
@@ -42,7 +44,11 @@ fn threads(text: &[u8]) -> Option<([u32; 3], &[u8])>
     let (z, rest) = number(rest)?;
     let rest = mark(rest, b')')?;
     let rest = mark(rest, b']')?;
-    if is_group_size(x, y, z) { Some(([x, y, z], rest)) } else { None }
+    if is_group_size(x, y, z) {
+        Some(([x, y, z], rest))
+    } else {
+        None
+    }
 }
 
 /// What follows the head of the entry and its brace.
@@ -198,3 +204,19 @@ fn form(alloc: Global, text: &[u8]) -> Result<Option<FirstForm>, NoMemory>
         stores,
     }))
 }
+
+/// The first form of a text, or none where the text has none.
+///
+/// # Errors
+/// `NoMemory` where memory is refused.
+pub fn first_form(alloc: Global, text: &[u8]) -> Result<Option<FirstForm>, NoMemory>
+    ensures found { IfOk result (λ found. IfSome found (IsFirstForm text.now)) }
+    ensures none { IfOk result (λ found. IfNone found ((other : FirstForm) → ¬ IsFirstForm text.now other)) }
+{
+    form(alloc, text)
+}
+
+/// A text has at most one first form.
+pub fn one_form()
+    ensures { (text : List ℕ) (one other : FirstForm) → IsFirstForm text one → IsFirstForm text other → one ≡ other }
+{}

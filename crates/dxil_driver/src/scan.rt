@@ -155,11 +155,41 @@ fn is_reserved(name: &[u8]) -> bool
 {
     is_among(
         &[
-            b"void", b"bool", b"int", b"uint", b"bool2", b"bool3", b"bool4", b"int2", b"int3",
-            b"int4", b"uint2", b"uint3", b"uint4", b"struct", b"static", b"const", b"groupshared",
-            b"in", b"out", b"inout", b"if", b"else", b"for", b"while", b"do", b"break",
-            b"continue", b"return", b"true", b"false", b"register", b"ByteAddressBuffer",
-            b"RWByteAddressBuffer", b"StructuredBuffer", b"RWStructuredBuffer",
+            b"void",
+            b"bool",
+            b"int",
+            b"uint",
+            b"bool2",
+            b"bool3",
+            b"bool4",
+            b"int2",
+            b"int3",
+            b"int4",
+            b"uint2",
+            b"uint3",
+            b"uint4",
+            b"struct",
+            b"static",
+            b"const",
+            b"groupshared",
+            b"in",
+            b"out",
+            b"inout",
+            b"if",
+            b"else",
+            b"for",
+            b"while",
+            b"do",
+            b"break",
+            b"continue",
+            b"return",
+            b"true",
+            b"false",
+            b"register",
+            b"ByteAddressBuffer",
+            b"RWByteAddressBuffer",
+            b"StructuredBuffer",
+            b"RWStructuredBuffer",
         ],
         name,
     )
@@ -182,5 +212,9 @@ pub fn buffer_name(text: &[u8]) -> Option<(&[u8], &[u8])>
     ensures { Reads (λ x. (x.0.now, x.1.now)) result (name_at text.now) }
 {
     let (found, rest) = run(text);
-    if is_buffer_name(found) { Some((found, rest)) } else { None }
+    if is_buffer_name(found) {
+        Some((found, rest))
+    } else {
+        None
+    }
 }

@@ -4,3 +4,7 @@ pub mod StoresLane
 pub mod WordPlaces
 pub mod OneWord
 pub mod Refused
+pub mod Parts
+pub mod Recognised
+pub mod Scanned
+pub mod Statements

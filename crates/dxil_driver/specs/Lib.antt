@@ -4,3 +4,6 @@ pub mod Places
 pub mod Compiled
 pub mod Refusal
 pub mod Tool
+pub mod Tokens
+pub mod FirstForm
+pub mod Reading

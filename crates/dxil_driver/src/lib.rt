@@ -4,7 +4,9 @@
 pub mod commands;
 pub mod compiler;
 mod emit;
+mod first_form;
 pub mod refusal;
+mod scan;
 pub mod status;
 mod stores;
 

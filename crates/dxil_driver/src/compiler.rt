@@ -1,0 +1,42 @@
+//! From a text to a container.
+
+ghost use Rattle.std.specs.Prelude.{◌<◌, ◌≤◌, ◌⊎◌, length, IfOk, OnOk, IsErrOf};
+ghost use Rattle.dxil_driver.specs.Compiled.{most_source, HasFirstForm, Compiled};
+
+use base_core::Bytes;
+use std::alloc::Global;
+
+/// The greatest number of bytes of a source.
+pub const MOST_SOURCE: usize = 1048576;
+
+/// Why a text isn't compiled.
+#[derive(Clone, Copy, Debug, PartialEq, Eq)]
+pub enum CompileFault {
+    /// The text has more than 1048576 bytes.
+    TooLong,
+    /// The text isn't of the form that is compiled so far.
+    Unbuilt,
+    /// Memory was refused.
+    Memory,
+}
+
+/// The container of the text.
+///
+/// # Errors
+/// `TooLong` exactly above 1048576 bytes, `Unbuilt` exactly where a text within that length isn't of the
+/// first form, and `Memory`, to which both yield. So a first form within that length gives `Ok` or `Memory`.
+#[tactic(auto, unfolding(crate::specs::Compiled::HasFirstForm))]
+pub fn compile(_alloc: Global, text: &[u8]) -> Result<Bytes, CompileFault>
+    ensures compiled { IfOk result (λ bytes. Compiled text.now bytes) }
+    ensures accepted { OnOk result ((length text.now ≤ most_source) × HasFirstForm text.now) }
+    ensures too_long { IsErrOf result CompileFault.TooLong → most_source < length text.now }
+    ensures unbuilt { IsErrOf result CompileFault.Unbuilt → (length text.now ≤ most_source) × (¬ HasFirstForm text.now) }
+    ensures long { most_source < length text.now → IsErrOf result CompileFault.TooLong ⊎ IsErrOf result CompileFault.Memory }
+    ensures other { length text.now ≤ most_source → ¬ HasFirstForm text.now
+        → IsErrOf result CompileFault.Unbuilt ⊎ IsErrOf result CompileFault.Memory }
+{
+    if text.len() > MOST_SOURCE {
+        return Err(CompileFault::TooLong);
+    }
+    Err(CompileFault::Unbuilt)
+}

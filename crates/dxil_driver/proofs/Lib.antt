@@ -1,5 +1,7 @@
 pub mod Assembled
+pub mod OneWord
 pub mod Pushes
+pub mod Refused
 pub mod StoresLane
 pub mod WordPlaces
 pub mod OneWord

@@ -124,3 +124,6 @@ pub fn tool<I: Source, O: Sink, N: Sink>(
         Err(refusal) => tell(notes, refusal.status(), refusal.line()),
     }
 }
+
+#[cfg(test)]
+mod tests;

@@ -1,4 +1,5 @@
 pub mod Assembled
+pub mod EmittedWhole
 pub mod Pushes
 pub mod StoresLane
 pub mod WordPlaces

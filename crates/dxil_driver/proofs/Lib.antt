@@ -1,5 +1,6 @@
 pub mod Assembled
 pub mod OneWord
+pub mod EmittedWhole
 pub mod Pushes
 pub mod Refused
 pub mod StoresLane

@@ -1,5 +1,5 @@
 -- A map from numbers to their places in a list.
-use Rattle.std.specs.Prelude.{◌≡◌, ℕ, ◌<◌, ◌^◌, List, true, false, nat_eq, slice_get}
+use Rattle.std.specs.Prelude.{◌≡◌, ℕ, ◌<◌, ◌^◌, List, length, true, false, nat_eq, slice_get}
 use Rattle.std.specs.List.{list_any, All}
 use Rattle.std.specs.HashMap.{HashMap, get}
 use Rattle.std.specs.declared.option.Option.{Option}
@@ -13,6 +13,10 @@ IsPlaceOf (Some at) words word = (slice_get words at ≡ Some word) × (list_any
 -- the map has for each number of the list a place of it there, and for no other number one
 pub record Knows {S : Type 0} (places : HashMap ℕ ℕ S) (words : List ℕ) : Type 0 where
   pub place : (word : ℕ) → IsPlaceOf (get nat_eq places word) words word
+
+-- both places are places of the list
+abbrev pub IsWithin : List ℕ → ℕ × ℕ → Type 0
+IsWithin words pair = (pair.0 < length words) × (pair.1 < length words)
 
 -- both places are below the greatest length of a list
 abbrev pub IsShort : ℕ × ℕ → Type 0

@@ -1,2 +1,3 @@
-pub mod SteadyMachine
 pub mod Runs
+pub mod SoundModules
+pub mod SteadyMachine

@@ -3,6 +3,10 @@ pub mod OneWord
 pub mod EmittedWhole
 pub mod Pushes
 pub mod Refused
+pub mod Parts
+pub mod Recognised
+pub mod Scanned
+pub mod Statements
 pub mod StoresLane
 pub mod WordPlaces
 pub mod OneWord

@@ -72,6 +72,7 @@ word_store = search
 abbrev pub declared_tokens : List ℕ → List Token
 declared_tokens name = a_word name ∷ colon ∷ a_word (codes "register") ∷ open_round ∷ a_word (codes "u0") ∷ close_round ∷ semicolon ∷ []
 
+-- what is read behind each of the tokens, the last first
 abbrev declared_7 : (name : List ℕ) (rest : List ℕ) → Option (List ℕ × List ℕ)
 declared_7 name rest = Some (name, rest)
 
@@ -130,6 +131,7 @@ passing_group x y z e =
     let g = and_parts (leb z 64) _ f.1 in
     (leb-true 1 x a.0, leb-true x 1024 b.0, leb-true 1 y c.0, leb-true y 1024 d.0, leb-true 1 z f.0, leb-true z 64 g.0, leb-true (x * y * z) 1024 g.1)
 
+-- what is read behind each of the tokens, the last first
 abbrev threads_10 : (x : ℕ) (y : ℕ) (z : ℕ) (rest : List ℕ) → Option (List ℕ × List ℕ)
 threads_10 x y z rest = cond (is_group_size x y z) (Some (x ∷ y ∷ z ∷ [], rest)) None
 
@@ -191,6 +193,7 @@ store address value = record { address = address; word = value }
 abbrev statement_9 : (name : List ℕ) (address : ℕ) (value : ℕ) (rest : List ℕ) → Option (LiteralStore × List ℕ)
 statement_9 name address value rest = Some (store address value, rest)
 
+-- what is read behind each of the tokens, the last first
 abbrev statement_8 : (name : List ℕ) (address : ℕ) (value : ℕ) (rest : List ℕ) → Option (LiteralStore × List ℕ)
 statement_8 name address value rest = mark_after 59 rest >>= statement_9 name address value
 

@@ -1,4 +1,5 @@
--- How the recogniser goes over a text: what is read at the front, and what is behind it.
+-- How the recogniser goes over a text: what is read at the front, and what is behind it. Only private
+-- functions cite this; what is read is the first form of the text, as `FirstForm` says it.
 use Rattle.std.specs.Prelude.{◌≡◌, ℕ, zero, suc, ◌+◌, ◌-◌, ◌*◌, Bool, true, false, not, ◌&&◌, List, [], ◌∷◌, take, drop, Option, Some, None, codes, nat_le, nat_eq, ◌==◌, if◌then◌else◌}
 use Rattle.std.specs.List.{list_any}
 use Rattle.std.specs.Char.{is_ascii_digit}

@@ -220,3 +220,6 @@ pub fn first_form(alloc: Global, text: &[u8]) -> Result<Option<FirstForm>, NoMem
 pub fn one_form()
     ensures { (text : List ℕ) (one other : FirstForm) → IsFirstForm text one → IsFirstForm text other → one ≡ other }
 {}
+
+#[cfg(test)]
+mod tests;

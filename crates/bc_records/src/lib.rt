@@ -1,13 +1,33 @@
-// A library with one function.
+//! Modules as blocks and records.
 #![tactic(auto)]
 
-ghost use Rattle.std.specs.Prelude.{◌≡◌};
-ghost use Rattle.bc_records.specs.Echo.{echo_of};
+ghost use Rattle.std.specs.Prelude.{◌≡◌, ◌<◌};
 
-// The `ensures` clause is the contract: what `echo` returns is `echo_of` of its argument, a definition
-// in `specs/Echo.antt`, which a caller's clause can cite too.
-pub fn echo(x: usize) -> usize
-    ensures { result ≡ echo_of x }
+use ir_core::{Module, Ty};
+use base_core::Text;
+
+/// Probe.
+pub fn probe(module: &Module) -> usize
+    ensures { result < 5 }
 {
-    x
+    module.types.len()
+}
+
+/// Probe.
+pub fn probe_type(ty: &Ty) -> usize
+    ensures { result < 5 }
+{
+    match ty {
+        Ty::Pointer { to, space } => (*to as usize),
+        Ty::Struct { name: Some(text), of } => of.len(),
+        _ => 7,
+    }
+}
+
+/// Probe.
+pub fn probe_text(text: &Text) -> usize
+    ensures { result < 5 }
+{
+    let s = text.as_slice();
+    s.len()
 }

@@ -2,5 +2,7 @@
 #![tactic(auto)]
 
 pub mod block;
+pub mod build;
 
 pub use block::{BlockList, BlockTree, Entry, Part, Parts, Values};
+pub use build::{no_blocks, no_parts, push_block, push_entry, push_outermost};

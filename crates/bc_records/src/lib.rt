@@ -1,33 +1,20 @@
-//! Modules as blocks and records.
+//! Modules as blocks and records (LLVM Bitcode File Format, "LLVM IR Encoding").
 #![tactic(auto)]
 
 ghost use Rattle.std.specs.Prelude.{◌≡◌, ◌<◌};
+ghost use Rattle.bc_records.specs.Records.{Recorded};
+ghost use Rattle.bc_records.specs.FirstList.{IsListed};
+ghost use Rattle.ir_core.specs.Soundness.{IsWhole};
+ghost use Rattle.bc_stream.specs.Blocks.{no_more};
 
-use ir_core::{Module, Ty};
-use base_core::Text;
+use ir_core::Module;
 
 /// Probe.
 pub fn probe(module: &Module) -> usize
-    ensures { result < 5 }
+    requires whole { IsWhole module.now }
+    requires listed { IsListed module.now }
+    requires recorded { Recorded no_more module.now }
+    ensures { result ≡ result }
 {
-    module.types.len()
-}
-
-/// Probe.
-pub fn probe_type(ty: &Ty) -> usize
-    ensures { result < 5 }
-{
-    match ty {
-        Ty::Pointer { to, space } => (*to as usize),
-        Ty::Struct { name: Some(text), of } => of.len(),
-        _ => 7,
-    }
-}
-
-/// Probe.
-pub fn probe_text(text: &Text) -> usize
-    ensures { result < 5 }
-{
-    let s = text.as_slice();
-    s.len()
+    5
 }

@@ -1,1 +1,4 @@
+pub mod BitLemmas
 pub mod BlockLemmas
+pub mod StepLemmas
+pub mod SpellingLaw

@@ -3,6 +3,8 @@
 
 pub mod block;
 pub mod build;
+pub mod laws;
 
 pub use block::{BlockList, BlockTree, Entry, Part, Parts, Values};
 pub use build::{no_blocks, no_parts, push_block, push_entry, push_outermost};
+pub use laws::one_list;

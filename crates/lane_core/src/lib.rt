@@ -3,10 +3,9 @@
 
 pub mod configuration;
 pub mod event;
+pub mod laws;
 
 pub use configuration::{
     Buffer, Buffers, Config, History, LaneHistory, Seat, Seats, SharedStart, SharedVariables, World,
 };
-pub use event::{
-    Asked, AtomicKind, Cell, Event, Item, LaneFault, Reply, RunFault, Slot, WaveKind,
-};
+pub use event::{Asked, AtomicKind, Cell, Event, Item, LaneFault, Reply, RunFault, Slot, WaveKind};

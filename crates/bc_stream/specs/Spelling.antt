@@ -1,0 +1,153 @@
+-- How bytes spell blocks and records (LLVM Bitcode File Format, "Abbreviation IDs", "Blocks", "Data Records").
+--
+-- The bytes are cut into pieces. A piece is read by its layout alone, whatever its numbers are, and then judged by a
+-- table of the facts that are against it. What the pieces show, in order, is the list that the bytes spell.
+use Rattle.std.specs.Prelude.{◌≡◌, ◌≢◌, ℕ, ◌+◌, ◌*◌, ◌^◌, ◌<◌, ◌≤◌, ◌⊎◌, List, [], ◌∷◌, ◌++◌, length, map}
+use Rattle.std.specs.List.{All}
+use Rattle.bc_stream.specs.Bits.{bits_of, Place, Step, ◌then◌, Fixed, Aligned, Vbr, Vbrs}
+use Rattle.bc_stream.specs.Blocks.{Contents, no_more, a_record, a_block}
+
+-- ---- pieces
+
+-- What a piece says, its numbers of any size.
+pub data Raw : Type 0 where
+  raw_leave : Raw
+  raw_enter : (id : ℕ) (new_width : ℕ) (words : ℕ) → Raw
+  raw_record : (code : ℕ) (values : List ℕ) → Raw
+
+-- The layout of a piece where abbreviation ids have a width.
+--   END_BLOCK        [0, align32]
+--   ENTER_SUBBLOCK   [1, blockid: vbr8, newabbrevlen: vbr4, align32, blocklen: 32]
+--   UNABBREV_RECORD  [3, code: vbr6, numops: vbr6, op: vbr6 each]
+abbrev pub reads : ℕ → Raw → Step
+reads width raw_leave = Fixed width 0 then Aligned
+reads width (raw_enter id new_width words) = Fixed width 1 then Vbr 8 id then Vbr 4 new_width then Aligned then Fixed 32 words
+reads width (raw_record code values) = Fixed width 3 then Vbr 6 code then Vbr 6 (length values) then Vbrs 6 values
+
+-- ---- open blocks
+
+-- An open block: its id, the width of abbreviation ids in it, and the place where it ends.
+pub record Frame : Type 0 where
+  pub id : ℕ
+  pub width : ℕ
+  pub ends : ℕ
+
+-- Where a piece begins: the open blocks, the innermost first, and the place.
+pub record State : Type 0 where
+  pub frames : List Frame
+  pub place : Place
+
+-- the width of abbreviation ids: outside all blocks it is 2
+abbrev pub width_in : List Frame → ℕ
+width_in [] = 2
+width_in (frame ∷ frames) = frame.width
+
+-- the open blocks behind a piece that ends at a place
+abbrev pub frames_after : List Frame → Raw → Place → List Frame
+frames_after [] raw_leave to = []
+frames_after (frame ∷ frames) raw_leave to = frames
+frames_after frames (raw_enter id new_width words) to = record { id = id; width = new_width; ends = to.at + 32 * words } ∷ frames
+frames_after frames (raw_record code values) to = frames
+
+-- ---- what is against a piece
+
+-- a number above 64 bits, a block id or a code above 32 bits, or a width above 64
+abbrev pub too_large : ℕ
+too_large = 4
+
+-- a block that ends elsewhere than its length says
+abbrev pub wrong_length : ℕ
+wrong_length = 5
+
+-- something else than a block outside all blocks
+abbrev pub outside_blocks : ℕ
+outside_blocks = 7
+
+-- more than 16 levels
+abbrev pub too_deep : ℕ
+too_deep = 9
+
+-- the block of abbreviations, which isn't read yet
+abbrev pub not_built : ℕ
+not_built = 10
+
+-- the greatest number of blocks in one another
+abbrev pub most_levels : ℕ
+most_levels = 16
+
+-- The innermost open block ends elsewhere.
+abbrev pub EndsElsewhere : List Frame → Place → Type 0
+EndsElsewhere [] to = ⊥
+EndsElsewhere (frame ∷ frames) to = to.at ≢ frame.ends
+
+-- One row for each fact: the kind, and the piece that has it.
+abbrev pub Has : List Frame → Place → Raw → ℕ → Type 0
+Has frames to raw_leave kind =
+    ((kind ≡ outside_blocks) × (frames ≡ []))
+    ⊎ ((kind ≡ wrong_length) × EndsElsewhere frames to)
+Has frames to (raw_enter id new_width words) kind =
+    ((kind ≡ too_large) × (2 ^ 32 ≤ id))
+    ⊎ (((kind ≡ too_large) × (64 < new_width))
+    ⊎ (((kind ≡ too_deep) × (most_levels ≤ length frames))
+    ⊎ ((kind ≡ not_built) × (id ≡ 0))))
+Has frames to (raw_record code values) kind =
+    ((kind ≡ outside_blocks) × (frames ≡ []))
+    ⊎ (((kind ≡ too_large) × (2 ^ 32 ≤ code))
+    ⊎ ((kind ≡ too_large) × ((All (λ value. value < 2 ^ 64) values) → ⊥)))
+
+-- A good piece is read and has nothing against it.
+pub record Good (from : State) (raw : Raw) (to : Place) : Type 0 where
+  pub is_read : reads (width_in from.frames) raw from.place to
+  pub has_none : (kind : ℕ) → Has from.frames to raw kind → ⊥
+
+-- Good pieces, one after another.
+pub record GoodThen (raw : Raw) (Rest : State → Type 0) (from : State) : Type 0 where
+  pub behind : Place
+  pub good : Good from raw behind
+  pub rest : Rest (record { frames = frames_after from.frames raw behind; place = behind })
+
+abbrev pub Leads : List Raw → State → State → Type 0
+Leads [] to from = to ≡ from
+Leads (raw ∷ raws) to from = GoodThen raw (Leads raws to) from
+
+-- ---- the list that is spelled
+
+-- What a piece shows of the list.
+pub data Shown : Type 0 where
+  shown_leave : Shown
+  shown_enter : (id : ℕ) → Shown
+  shown_record : (code : ℕ) (values : List ℕ) → Shown
+
+abbrev pub shown : Raw → Shown
+shown raw_leave = shown_leave
+shown (raw_enter id new_width words) = shown_enter id
+shown (raw_record code values) = shown_record code values
+
+-- What the pieces of a list show, in order.
+abbrev pub shown_of : Contents → List Shown
+shown_of no_more = []
+shown_of (a_record code values rest) = shown_record code values ∷ shown_of rest
+shown_of (a_block id inner rest) = shown_enter id ∷ shown_of inner ++ shown_leave ∷ shown_of rest
+
+-- Where the first piece begins.
+abbrev pub start : List ℕ → State
+start bytes = record { frames = []; place = record { at = 32; left = bits_of bytes } }
+
+-- Zero bytes after the last outermost block are skipped.
+pub record IsEnd (state : State) : Type 0 where
+  pub closed : state.frames ≡ []
+  pub zeros : All (λ bit. bit ≡ 0) state.place.left
+
+-- Bytes spell a list of blocks: 'BC' 0xC0DE, and then pieces that show the list.
+pub record Spelled (bytes : List ℕ) (blocks : Contents) : Type 0 where
+  pub behind : List ℕ
+  pub magic : bytes ≡ 66 ∷ 67 ∷ 192 ∷ 222 ∷ behind
+  pub pieces : List Raw
+  pub end : State
+  pub leads : Leads pieces end (start behind)
+  pub ends : IsEnd end
+  pub shows : map shown pieces ≡ shown_of blocks
+
+-- Bytes spell at most one list.
+abbrev pub OneList : Type 0
+OneList = (bytes : List ℕ) (one other : Contents) → Spelled bytes one → Spelled bytes other → one ≡ other

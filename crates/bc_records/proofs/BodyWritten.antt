@@ -12,13 +12,13 @@ use Rattle.ir_core.specs.declared.module.Module.{Module}
 use Rattle.ir_core.specs.Values.{instructions, function_at, signature}
 use Rattle.ir_core.specs.Soundness.{IsSoundInst, Takes, EndsOnce, ends_block}
 use Rattle.bc_stream.specs.Blocks.{no_more}
-use Rattle.bc_records.specs.Raw.{IsWord, records_in, block_ids, blocks_in}
+use Rattle.bc_records.specs.Entries.{IsWord, entries_in, block_ids, blocks_in}
 use Rattle.bc_records.specs.ConstantRecords.{ConstantsRecorded}
-use Rattle.bc_records.specs.BodyRecords.{BodyRecord, declare_blocks, body_raw, declared_blocks, instruction_records, InstructionsRecorded, InstructionRecorded, IsTypeOf, absolute, first_value, next_value, filled_blocks, before_first, BodyRecorded}
+use Rattle.bc_records.specs.BodyRecords.{BodyRecord, declare_blocks, body_entry, declared_blocks, instruction_records, InstructionsRecorded, InstructionRecorded, IsTypeOf, absolute, first_value, next_value, filled_blocks, before_first, BodyRecorded}
 use Rattle.bc_records.specs.FirstList.{IsListedInst}
 use Rattle.bc_records.specs.Ranges.{InstInRange, AreWords}
 use Rattle.bc_records.specs.Written.{relative, type_number, inst_records, written_code, constants_contents, body_contents}
-use Rattle.bc_records.proofs.ListedLemmas.{records_in-alone, block_ids-listed, blocks_in-listed}
+use Rattle.bc_records.proofs.ListedLemmas.{entries_in-alone, block_ids-listed, blocks_in-listed}
 use Rattle.bc_records.proofs.ConstantsWritten.{constants_written}
 use Rattle.bc_records.proofs.Numbers.{absolute-relative, relative-below}
 
@@ -85,11 +85,11 @@ pub body_written : (m : Module) (f : Function) (body : Body) (values : ℕ) →
     BodyRecorded m f (body_contents m f body) body
 body_written m f body values consts sound ended listed_insts in_range = record {
   records = declare_blocks (length body.blocks) ∷ written_code m (first_value m f body) (instructions body);
-  spelled = ap (λ raws. body_raw (declare_blocks (length body.blocks)) ∷ raws) (records_in-alone (map body_raw (written_code m (first_value m f body) (instructions body))));
-  known_blocks = subst (λ ids. All (Contains (11 ∷ 14 ∷ 15 ∷ [])) (11 ∷ ids)) (sym (block_ids-listed (map body_raw (written_code m (first_value m f body) (instructions body))) no_more))
+  spelled = ap (λ entries. body_entry (declare_blocks (length body.blocks)) ∷ entries) (entries_in-alone (map body_entry (written_code m (first_value m f body) (instructions body))));
+  known_blocks = subst (λ ids. All (Contains (11 ∷ 14 ∷ 15 ∷ [])) (11 ∷ ids)) (sym (block_ids-listed (map body_entry (written_code m (first_value m f body) (instructions body))) no_more))
     (All-cons (Contains (11 ∷ 14 ∷ 15 ∷ [])) 11 [] (0, lit< tt, refl) (All-nil (Contains (11 ∷ 14 ∷ 15 ∷ []))));
   constants = subst (λ blocks. ConstantsRecorded (length m.types) (constants_contents body.consts ∷ blocks) body.consts)
-    (sym (blocks_in-listed 11 (map body_raw (written_code m (first_value m f body) (instructions body))) no_more))
+    (sym (blocks_in-listed 11 (map body_entry (written_code m (first_value m f body) (instructions body))) no_more))
     (constants_written (length m.types) body.consts consts);
   number = ap (λ ns. length body.blocks ∷ ns) (no_declarations m (first_value m f body) (instructions body));
   code = code_written m values (length body.blocks) (first_value m f body) (instructions body) listed_insts in_range sound;

@@ -7,9 +7,9 @@ use Rattle.ir_core.specs.declared.module.Const.{Const}
 use Rattle.ir_core.specs.declared.module.ConstValue.{ConstValue}
 use Rattle.ir_core.specs.declared.module.ConstValue.TheVariants.{Null, Undef, Int}
 use Rattle.bc_stream.specs.Blocks.{no_more}
-use Rattle.bc_records.specs.ConstantRecords.{ConstantRecord, set_type, null_constant, undef_constant, integer_constant, constant_raw, constants_of, signed_value, SetsTypeFirst, NamesType, ConstantsRecorded}
+use Rattle.bc_records.specs.ConstantRecords.{ConstantRecord, set_type, null_constant, undef_constant, integer_constant, constant_entry, constants_of, signed_value, SetsTypeFirst, NamesType, ConstantsRecorded}
 use Rattle.bc_records.specs.Written.{constant_record, set_before, written_constants, constants_contents, signed_number}
-use Rattle.bc_records.proofs.ListedLemmas.{records_in-alone, block_ids-listed}
+use Rattle.bc_records.proofs.ListedLemmas.{entries_in-alone, block_ids-listed}
 use Rattle.bc_records.proofs.Numbers.{signed_value-signed_number, same_or_other, test_same, test_other}
 
 -- one constant more, of the type in force
@@ -65,8 +65,8 @@ pub constants_written : (types : ℕ) (constants : List Const) → All (λ c. c.
     ConstantsRecorded types (constants_contents constants ∷ []) constants
 constants_written types constants names_types = record {
   records = written_constants None constants ∷ [];
-  spelled = ap (λ raws. raws ∷ []) (records_in-alone (map constant_raw (written_constants None constants)));
-  no_blocks = append-nil _ ∙ block_ids-listed (map constant_raw (written_constants None constants)) no_more;
+  spelled = ap (λ entries. entries ∷ []) (entries_in-alone (map constant_entry (written_constants None constants)));
+  no_blocks = append-nil _ ∙ block_ids-listed (map constant_entry (written_constants None constants)) no_more;
   typed = All-cons SetsTypeFirst (written_constants None constants) [] (typed constants) (All-nil SetsTypeFirst);
   named = rw append-nil (named_all types None constants names_types);
   values = append-nil _ ∙ values None 0 constants tt;

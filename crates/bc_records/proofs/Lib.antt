@@ -7,3 +7,7 @@ pub mod MetadataWritten
 pub mod SymbolsWritten
 pub mod BodyWritten
 pub mod ModuleWritten
+pub mod Steps
+pub mod ConstantSteps
+pub mod MetadataSteps
+pub mod SymbolSteps

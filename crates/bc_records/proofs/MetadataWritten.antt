@@ -6,9 +6,9 @@ use Rattle.ir_core.specs.declared.module.Meta.{Meta}
 use Rattle.ir_core.specs.declared.module.Meta.TheVariants.{Chars, Value, Node}
 use Rattle.ir_core.specs.declared.module.Named.{Named}
 use Rattle.bc_stream.specs.Blocks.{no_more}
-use Rattle.bc_records.specs.MetadataRecords.{MetadataRecord, metadata_raws, node_part, metas_of, named_of, MetadataRecorded}
+use Rattle.bc_records.specs.MetadataRecords.{MetadataRecord, metadata_entries, node_part, metas_of, named_of, MetadataRecorded}
 use Rattle.bc_records.specs.Written.{written_part, meta_record, named_record, written_metadata, metadata_contents}
-use Rattle.bc_records.proofs.ListedLemmas.{records_in-alone, block_ids-listed}
+use Rattle.bc_records.proofs.ListedLemmas.{entries_in-alone, block_ids-listed}
 
 parts_back : (parts : List (Option ℕ)) → map node_part (map written_part parts) ≡ parts
 parts_back [] = refl
@@ -39,8 +39,8 @@ names_past (Node parts ∷ metas) rest = names_past metas rest
 pub metadata_written : (metas : List Meta) (named : List Named) → MetadataRecorded (metadata_contents metas named ∷ []) metas named
 metadata_written metas named = record {
   records = written_metadata metas named ∷ [];
-  spelled = ap (λ raws. raws ∷ []) (records_in-alone (flat_map metadata_raws (written_metadata metas named)));
-  no_blocks = append-nil _ ∙ block_ids-listed (flat_map metadata_raws (written_metadata metas named)) no_more;
+  spelled = ap (λ entries. entries ∷ []) (entries_in-alone (flat_map metadata_entries (written_metadata metas named)));
+  no_blocks = append-nil _ ∙ block_ids-listed (flat_map metadata_entries (written_metadata metas named)) no_more;
   numbered = append-nil _ ∙ (metas_back metas (map named_record named) ∙ (ap (λ ms. metas ++ ms) (no_metas named) ∙ append-nil metas));
   names = append-nil _ ∙ (names_past metas (map named_record named) ∙ named_back named);
 }

@@ -12,17 +12,17 @@ use Rattle.ir_core.specs.declared.module.Module.{Module}
 use Rattle.ir_core.specs.Values.{instructions, bodies, body_values}
 use Rattle.ir_core.specs.Soundness.{IsSoundBody, IsWhole, EndsOnce}
 use Rattle.bc_stream.specs.Blocks.{Contents, no_more, a_block}
-use Rattle.bc_records.specs.Raw.{Raw, raw, records_in, block_ids, blocks_in}
+use Rattle.bc_records.specs.Entries.{Entry, entry, entries_in, block_ids, blocks_in}
 use Rattle.bc_records.specs.ConstantRecords.{ConstantsRecorded}
 use Rattle.bc_records.specs.MetadataRecords.{MetadataRecorded}
 use Rattle.bc_records.specs.SymbolRecords.{SymbolsRecorded}
 use Rattle.bc_records.specs.BodyRecords.{BodyRecorded, BodiesRecorded}
-use Rattle.bc_records.specs.ModuleRecords.{ModuleRecord, version_record, triple_record, layout_record, function_record, module_raw, versions, triples, layouts, declarations, declaration_of, prototype_of}
+use Rattle.bc_records.specs.ModuleRecords.{ModuleRecord, version_record, triple_record, layout_record, function_record, module_entry, versions, triples, layouts, declarations, declaration_of, prototype_of}
 use Rattle.bc_records.specs.Ranges.{FunctionInRange, BodyInRange, BlockInRange, InstInRange, ConstInRange, IsInRange}
 use Rattle.bc_records.specs.FirstList.{IsListed, IsListedInst}
 use Rattle.bc_records.specs.Records.{Recorded}
-use Rattle.bc_records.specs.Written.{listed, function_raw, body_contents, bodies_contents, module_contents, written, types_contents, constants_contents, metadata_contents, symbols_contents}
-use Rattle.bc_records.proofs.ListedLemmas.{records_in-listed, block_ids-listed, blocks_in-listed}
+use Rattle.bc_records.specs.Written.{listed, function_entry, body_contents, bodies_contents, module_contents, written, types_contents, constants_contents, metadata_contents, symbols_contents}
+use Rattle.bc_records.proofs.ListedLemmas.{entries_in-listed, block_ids-listed, blocks_in-listed}
 use Rattle.bc_records.proofs.TypesWritten.{types_written}
 use Rattle.bc_records.proofs.ConstantsWritten.{constants_written}
 use Rattle.bc_records.proofs.MetadataWritten.{metadata_written}
@@ -36,9 +36,9 @@ function_records (f ∷ fs) = function_record f.ty 0 (prototype_of f.body) 0 (re
 abbrev module_records : Module → List ModuleRecord
 module_records m = version_record ∷ triple_record m.triple ∷ layout_record m.layout ∷ function_records m.functions
 
-raws_of_functions : (fs : List Function) → map function_raw fs ≡ map module_raw (function_records fs)
-raws_of_functions [] = refl
-raws_of_functions (f ∷ fs) = ap (λ raws. function_raw f ∷ raws) (raws_of_functions fs)
+entries_of_functions : (fs : List Function) → map function_entry fs ≡ map module_entry (function_records fs)
+entries_of_functions [] = refl
+entries_of_functions (f ∷ fs) = ap (λ entries. function_entry f ∷ entries) (entries_of_functions fs)
 
 no_versions : (fs : List Function) → versions (function_records fs) ≡ []
 no_versions [] = refl
@@ -58,7 +58,7 @@ declared (f ∷ fs) = ap (λ ds. declaration_of f ∷ ds) (declared fs)
 
 -- what stands among the bodies
 module _ (m : Module) where
-  no_records : (bs : List (Function × Body)) → records_in (bodies_contents m bs) ≡ []
+  no_records : (bs : List (Function × Body)) → entries_in (bodies_contents m bs) ≡ []
   no_records [] = refl
   no_records (b ∷ bs) = no_records bs
 
@@ -107,7 +107,7 @@ known : (m : Module) → All (Contains (11 ∷ 12 ∷ 14 ∷ 15 ∷ 17 ∷ [])) 
 known m =
     let P : ℕ → Type 0 = Contains (11 ∷ 12 ∷ 14 ∷ 15 ∷ 17 ∷ []) in
     let bs : List ℕ = block_ids (bodies_contents m (bodies m.functions)) in
-    subst (λ ids. All P (17 ∷ ids)) (sym (block_ids-listed (map function_raw m.functions) _))
+    subst (λ ids. All P (17 ∷ ids)) (sym (block_ids-listed (map function_entry m.functions) _))
     (All-cons P 17 (11 ∷ 15 ∷ 14 ∷ bs) (4, lit< tt, refl)
     (All-cons P 11 (15 ∷ 14 ∷ bs) (0, lit< tt, refl)
     (All-cons P 15 (14 ∷ bs) (3, lit< tt, refl)
@@ -120,27 +120,27 @@ recorded m whole first_list ranges = record {
   one_module = refl;
   known_blocks = known m;
   records = module_records m;
-  spelled = ap (λ raws. raw 1 (1 ∷ []) ∷ raw 2 m.triple ∷ raw 3 m.layout ∷ raws)
-    (records_in-listed (map function_raw m.functions) _ ∙ (ap (λ raws. map function_raw m.functions ++ raws) (no_records m (bodies m.functions)) ∙ (append-nil _ ∙ raws_of_functions m.functions)));
+  spelled = ap (λ entries. entry 1 (1 ∷ []) ∷ entry 2 m.triple ∷ entry 3 m.layout ∷ entries)
+    (entries_in-listed (map function_entry m.functions) _ ∙ (ap (λ entries. map function_entry m.functions ++ entries) (no_records m (bodies m.functions)) ∙ (append-nil _ ∙ entries_of_functions m.functions)));
   version = ap (λ vs. 1 ∷ vs) (no_versions m.functions);
   triple = ap (λ ts. m.triple ∷ ts) (no_triples m.functions);
   layout = ap (λ ls. m.layout ∷ ls) (no_layouts m.functions);
   globals = first_list.globals;
   functions = declared m.functions;
   type_block = types_contents m.types;
-  one_type_table = ap (λ bs. types_contents m.types ∷ bs) (blocks_in-listed 17 (map function_raw m.functions) _ ∙ no_others m 17 (bodies m.functions) (λ inner rest. refl));
+  one_type_table = ap (λ bs. types_contents m.types ∷ bs) (blocks_in-listed 17 (map function_entry m.functions) _ ∙ no_others m 17 (bodies m.functions) (λ inner rest. refl));
   types = types_written m.types first_list.types ranges.types;
   constants = subst (λ bs. ConstantsRecorded (length m.types) bs m.consts)
-    (sym (blocks_in-listed 11 (map function_raw m.functions) _ ∙ ap (λ bs. constants_contents m.consts ∷ bs) (no_others m 11 (bodies m.functions) (λ inner rest. refl))))
+    (sym (blocks_in-listed 11 (map function_entry m.functions) _ ∙ ap (λ bs. constants_contents m.consts ∷ bs) (no_others m 11 (bodies m.functions) (λ inner rest. refl))))
     (constants_written (length m.types) m.consts whole.sound.consts);
   metadata = subst (λ bs. MetadataRecorded bs m.metas m.named)
-    (sym (blocks_in-listed 15 (map function_raw m.functions) _ ∙ ap (λ bs. metadata_contents m.metas m.named ∷ bs) (no_others m 15 (bodies m.functions) (λ inner rest. refl))))
+    (sym (blocks_in-listed 15 (map function_entry m.functions) _ ∙ ap (λ bs. metadata_contents m.metas m.named ∷ bs) (no_others m 15 (bodies m.functions) (λ inner rest. refl))))
     (metadata_written m.metas m.named);
   symbols = subst (λ bs. SymbolsRecorded (length m.functions) bs (map (λ f. f.name) m.functions))
-    (sym (blocks_in-listed 14 (map function_raw m.functions) _ ∙ ap (λ bs. symbols_contents m.functions ∷ bs) (no_others m 14 (bodies m.functions) (λ inner rest. refl))))
+    (sym (blocks_in-listed 14 (map function_entry m.functions) _ ∙ ap (λ bs. symbols_contents m.functions ∷ bs) (no_others m 14 (bodies m.functions) (λ inner rest. refl))))
     (symbols_written m.functions);
   code = subst (λ bs. BodiesRecorded m bs (bodies m.functions))
-    (sym (blocks_in-listed 12 (map function_raw m.functions) _))
+    (sym (blocks_in-listed 12 (map function_entry m.functions) _))
     (bodies_recorded m (bodies m.functions) (all_bodies m (bodies m.functions) whole.sound.bodies_sound whole.ended first_list.code (ranges_of_bodies m.functions ranges.functions)));
   sound = whole.sound;
   in_range = ranges;

@@ -5,9 +5,9 @@ use Rattle.std.proofs.lemmas.List.{append-nil}
 use Rattle.std.proofs.lemmas.List.Elements.{All-nil, All-cons, All-head, All-tail, All-push, All-weaker}
 use Rattle.ir_core.specs.declared.module.Function.{Function}
 use Rattle.bc_stream.specs.Blocks.{no_more}
-use Rattle.bc_records.specs.SymbolRecords.{SymbolRecord, symbol, symbol_raw, name_of, IsOf, IsOther, NamesOnce, NamedFrom, SymbolsRecorded}
+use Rattle.bc_records.specs.SymbolRecords.{SymbolRecord, symbol, symbol_entry, name_of, IsOf, IsOther, NamesOnce, NamedFrom, SymbolsRecorded}
 use Rattle.bc_records.specs.Written.{symbols_from, symbols_contents}
-use Rattle.bc_records.proofs.ListedLemmas.{records_in-alone, block_ids-listed}
+use Rattle.bc_records.proofs.ListedLemmas.{entries_in-alone, block_ids-listed}
 use Rattle.bc_records.proofs.Numbers.{test_same, test_other}
 
 abbrev names : List Function → List (List ℕ)
@@ -57,8 +57,8 @@ of_all count value (f ∷ fs) fits =
 pub symbols_written : (functions : List Function) → SymbolsRecorded (length functions) (symbols_contents functions ∷ []) (names functions)
 symbols_written functions = record {
   records = symbols_from 0 functions ∷ [];
-  spelled = ap (λ raws. raws ∷ []) (records_in-alone (map symbol_raw (symbols_from 0 functions)));
-  no_blocks = append-nil _ ∙ block_ids-listed (map symbol_raw (symbols_from 0 functions)) no_more;
+  spelled = ap (λ entries. entries ∷ []) (entries_in-alone (map symbol_entry (symbols_from 0 functions)));
+  no_blocks = append-nil _ ∙ block_ids-listed (map symbol_entry (symbols_from 0 functions)) no_more;
   of_values = rw append-nil (of_all (length functions) 0 functions (omega arith));
   once = rw append-nil (once_from 0 functions);
   names_are = rw append-nil (named_from 0 [] functions (All-nil (IsOf 0)));

@@ -6,14 +6,14 @@ use Rattle.std.proofs.lemmas.List.Elements.{All-nil, All-cons, All-head, All-tai
 use Rattle.ir_core.specs.declared.module.Ty.{Ty}
 use Rattle.ir_core.specs.declared.module.Ty.TheVariants.{Void, Label, Metadata, Int, Pointer, Array, Vector, Struct, Function}
 use Rattle.bc_stream.specs.Blocks.{no_more}
-use Rattle.bc_records.specs.Raw.{Raw, raw, IsText}
-use Rattle.bc_records.specs.TypeRecords.{TypeRecord, number_of_entries, void_type, integer_type, pointer_type, metadata_type, struct_name, struct_type, function_type, type_raw, entries_of, stated_numbers, IsTypeText, TypesRecorded}
+use Rattle.bc_records.specs.Entries.{Entry, entry, IsText}
+use Rattle.bc_records.specs.TypeRecords.{TypeRecord, number_of_entries, void_type, integer_type, pointer_type, metadata_type, struct_name, struct_type, function_type, type_entry, table_of, stated_numbers, IsTypeText, TypesRecorded}
 use Rattle.bc_records.specs.FirstList.{IsListedType}
 use Rattle.bc_records.specs.Ranges.{TypeInRange}
 use Rattle.bc_records.specs.Written.{type_records, written_types, types_contents}
-use Rattle.bc_records.proofs.ListedLemmas.{records_in-alone, block_ids-listed}
+use Rattle.bc_records.proofs.ListedLemmas.{entries_in-alone, block_ids-listed}
 
-entries-types : (types : List Ty) → All IsListedType types → entries_of [] (flat_map type_records types) ≡ types
+entries-types : (types : List Ty) → All IsListedType types → table_of [] (flat_map type_records types) ≡ types
 entries-types [] all = refl
 entries-types (Void ∷ types) all = ap (λ ts. Void ∷ ts) (entries-types types (All-tail IsListedType _ _ all))
 entries-types (Label ∷ types) all = absurd (All-head IsListedType _ _ all)
@@ -58,8 +58,8 @@ texts (Function result params ∷ types) all = All-cons IsTypeText (function_typ
 pub types_written : (types : List Ty) → All IsListedType types → All TypeInRange types → TypesRecorded (types_contents types) types
 types_written types listed_types in_range = record {
   records = written_types types;
-  spelled = records_in-alone (map type_raw (written_types types));
-  no_blocks = block_ids-listed (map type_raw (written_types types)) no_more;
+  spelled = entries_in-alone (map type_entry (written_types types));
+  no_blocks = block_ids-listed (map type_entry (written_types types)) no_more;
   entries = entries-types types listed_types;
   number = ap (λ ns. length types ∷ ns) (no_numbers types);
   texts = All-cons IsTypeText (number_of_entries (length types)) (flat_map type_records types) tt (texts types in_range);

@@ -8,7 +8,7 @@ use Rattle.ir_core.specs.declared.module.Module.{Module}
 use Rattle.ir_core.specs.Values.{module_values, parameters, instructions, has_value, function_at}
 use Rattle.ir_core.specs.Soundness.{ends_block}
 use Rattle.bc_stream.specs.Blocks.{Contents}
-use Rattle.bc_records.specs.Raw.{Raw, raw, records_in, block_ids, blocks_in, IsWord}
+use Rattle.bc_records.specs.Entries.{Entry, entry, entries_in, block_ids, blocks_in, IsWord}
 use Rattle.bc_records.specs.ConstantRecords.{ConstantsRecorded}
 
 pub data BodyRecord : Type 0 where
@@ -17,10 +17,10 @@ pub data BodyRecord : Type 0 where
   call_record : (attributes convention ty function : ℕ) (args : List ℕ) → BodyRecord
 
 -- DECLAREBLOCKS 1, RET 10, CALL 34
-abbrev pub body_raw : BodyRecord → Raw
-body_raw (declare_blocks n) = raw 1 (n ∷ [])
-body_raw return_record = raw 10 []
-body_raw (call_record attributes convention ty function args) = raw 34 (attributes ∷ convention ∷ ty ∷ function ∷ args)
+abbrev pub body_entry : BodyRecord → Entry
+body_entry (declare_blocks n) = entry 1 (n ∷ [])
+body_entry return_record = entry 10 []
+body_entry (call_record attributes convention ty function args) = entry 34 (attributes ∷ convention ∷ ty ∷ function ∷ args)
 
 -- the numbers of blocks that are declared
 abbrev pub declared_blocks : List BodyRecord → List ℕ
@@ -84,7 +84,7 @@ filled_blocks (inst ∷ insts) = if ends_block inst then (inst ∷ []) ∷ fille
 -- the block holds the body of a function. Symbol tables and metadata in it are not read.
 pub record BodyRecorded (m : Module) (f : Function) (block : Contents) (body : Body) : Type 0 where
   pub records : List BodyRecord
-  pub spelled : records_in block ≡ map body_raw records
+  pub spelled : entries_in block ≡ map body_entry records
   pub known_blocks : All (Contains (11 ∷ 14 ∷ 15 ∷ [])) (block_ids block)
   pub constants : ConstantsRecorded (length m.types) (blocks_in 11 block) body.consts
   pub number : declared_blocks records ≡ length body.blocks ∷ []

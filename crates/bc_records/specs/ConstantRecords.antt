@@ -4,7 +4,7 @@ use Rattle.std.specs.Prelude.{◌≡◌, ℕ, ◌-◌, ◌/◌, ◌%◌, ◌^◌
 use Rattle.ir_core.specs.declared.module.Const.{Const}
 use Rattle.ir_core.specs.declared.module.ConstValue.TheVariants.{Null, Undef, Int}
 use Rattle.bc_stream.specs.Blocks.{Contents}
-use Rattle.bc_records.specs.Raw.{Raw, raw, records_in, block_ids}
+use Rattle.bc_records.specs.Entries.{Entry, entry, entries_in, block_ids}
 
 pub data ConstantRecord : Type 0 where
   set_type : (ty : ℕ) → ConstantRecord
@@ -13,11 +13,11 @@ pub data ConstantRecord : Type 0 where
   integer_constant : (number : ℕ) → ConstantRecord
 
 -- SETTYPE 1, NULL 2, UNDEF 3, INTEGER 4
-abbrev pub constant_raw : ConstantRecord → Raw
-constant_raw (set_type ty) = raw 1 (ty ∷ [])
-constant_raw null_constant = raw 2 []
-constant_raw undef_constant = raw 3 []
-constant_raw (integer_constant number) = raw 4 (number ∷ [])
+abbrev pub constant_entry : ConstantRecord → Entry
+constant_entry (set_type ty) = entry 1 (ty ∷ [])
+constant_entry null_constant = entry 2 []
+constant_entry undef_constant = entry 3 []
+constant_entry (integer_constant number) = entry 4 (number ∷ [])
 
 -- a signed value: its lowest bit is the sign, and the others are its size; a zero with a sign is -2^63
 abbrev pub signed_value : ℕ → ℤ
@@ -45,7 +45,7 @@ NamesType types _ = Unit {0}
 -- the blocks hold the constants, one block after the other
 pub record ConstantsRecorded (types : ℕ) (blocks : List Contents) (constants : List Const) : Type 0 where
   pub records : List (List ConstantRecord)
-  pub spelled : map records_in blocks ≡ map (map constant_raw) records
+  pub spelled : map entries_in blocks ≡ map (map constant_entry) records
   pub no_blocks : flat_map block_ids blocks ≡ []
   pub typed : All SetsTypeFirst records
   pub named : All (NamesType types) (flat_map (λ block. block) records)

@@ -1,4 +1,4 @@
-pub mod Raw
+pub mod Entries
 pub mod TypeRecords
 pub mod ConstantRecords
 pub mod MetadataRecords

@@ -4,7 +4,7 @@ use Rattle.ir_core.specs.declared.module.Meta.{Meta}
 use Rattle.ir_core.specs.declared.module.Meta.TheVariants.{Chars, Value, Node}
 use Rattle.ir_core.specs.declared.module.Named.{Named}
 use Rattle.bc_stream.specs.Blocks.{Contents}
-use Rattle.bc_records.specs.Raw.{Raw, raw, records_in, block_ids}
+use Rattle.bc_records.specs.Entries.{Entry, entry, entries_in, block_ids}
 
 -- a record of metadata, or two: a name stands directly before the nodes that it names
 pub data MetadataRecord : Type 0 where
@@ -14,11 +14,11 @@ pub data MetadataRecord : Type 0 where
   named_metadata : (name ids : List ℕ) → MetadataRecord
 
 -- STRING 1, VALUE 2, NODE 3, NAME 4 and NAMED_NODE 10
-abbrev pub metadata_raws : MetadataRecord → List Raw
-metadata_raws (string_metadata text) = raw 1 text ∷ []
-metadata_raws (value_metadata ty value) = raw 2 (ty ∷ value ∷ []) ∷ []
-metadata_raws (node_metadata parts) = raw 3 parts ∷ []
-metadata_raws (named_metadata name ids) = raw 4 name ∷ raw 10 ids ∷ []
+abbrev pub metadata_entries : MetadataRecord → List Entry
+metadata_entries (string_metadata text) = entry 1 text ∷ []
+metadata_entries (value_metadata ty value) = entry 2 (ty ∷ value ∷ []) ∷ []
+metadata_entries (node_metadata parts) = entry 3 parts ∷ []
+metadata_entries (named_metadata name ids) = entry 4 name ∷ entry 10 ids ∷ []
 
 -- a part of a node: the number of metadata and 1, or 0 for null
 abbrev pub node_part : ℕ → Option ℕ
@@ -42,7 +42,7 @@ named_of (_ ∷ rest) = named_of rest
 -- the blocks hold the metadata, numbered through all of them
 pub record MetadataRecorded (blocks : List Contents) (metas : List Meta) (named : List Named) : Type 0 where
   pub records : List (List MetadataRecord)
-  pub spelled : map records_in blocks ≡ map (flat_map metadata_raws) records
+  pub spelled : map entries_in blocks ≡ map (flat_map metadata_entries) records
   pub no_blocks : flat_map block_ids blocks ≡ []
   pub numbered : flat_map metas_of records ≡ metas
   pub names : flat_map named_of records ≡ named

@@ -2,7 +2,7 @@
 use Rattle.std.specs.Prelude.{ℕ, Option, None, Some, List, [], ◌∷◌}
 use Rattle.ir_core.specs.declared.instruction.Body.{Body}
 use Rattle.ir_core.specs.declared.module.Function.{Function}
-use Rattle.bc_records.specs.Raw.{Raw, raw}
+use Rattle.bc_records.specs.Entries.{Entry, entry}
 
 pub data ModuleRecord : Type 0 where
   version_record : ModuleRecord
@@ -11,11 +11,11 @@ pub data ModuleRecord : Type 0 where
   function_record : (ty convention prototype linkage : ℕ) (others : List ℕ) → ModuleRecord
 
 -- VERSION 1 (relative operands), TRIPLE 2, DATALAYOUT 3, FUNCTION 8
-abbrev pub module_raw : ModuleRecord → Raw
-module_raw version_record = raw 1 (1 ∷ [])
-module_raw (triple_record text) = raw 2 text
-module_raw (layout_record text) = raw 3 text
-module_raw (function_record ty convention prototype linkage others) = raw 8 (ty ∷ convention ∷ prototype ∷ linkage ∷ others)
+abbrev pub module_entry : ModuleRecord → Entry
+module_entry version_record = entry 1 (1 ∷ [])
+module_entry (triple_record text) = entry 2 text
+module_entry (layout_record text) = entry 3 text
+module_entry (function_record ty convention prototype linkage others) = entry 8 (ty ∷ convention ∷ prototype ∷ linkage ∷ others)
 
 abbrev pub versions : List ModuleRecord → List ℕ
 versions [] = []

@@ -12,7 +12,7 @@ use Rattle.ir_core.specs.declared.module.Meta.{Meta}
 use Rattle.ir_core.specs.declared.module.Meta.TheVariants.{Chars, Value, Node}
 use Rattle.ir_core.specs.declared.module.Named.{Named}
 use Rattle.ir_core.specs.declared.module.Module.{Module}
-use Rattle.bc_records.specs.Raw.{IsWord, IsText}
+use Rattle.bc_records.specs.Entries.{IsWord, IsText}
 
 -- numbers of 32 bits
 abbrev pub AreWords : List ℕ → Type 0

@@ -4,13 +4,13 @@ use Rattle.ir_core.specs.declared.module.Module.{Module}
 use Rattle.ir_core.specs.Values.{bodies}
 use Rattle.ir_core.specs.Soundness.{IsSound}
 use Rattle.bc_stream.specs.Blocks.{Contents, no_more, a_block}
-use Rattle.bc_records.specs.Raw.{records_in, block_ids, blocks_in}
+use Rattle.bc_records.specs.Entries.{entries_in, block_ids, blocks_in}
 use Rattle.bc_records.specs.TypeRecords.{TypesRecorded}
 use Rattle.bc_records.specs.ConstantRecords.{ConstantsRecorded}
 use Rattle.bc_records.specs.MetadataRecords.{MetadataRecorded}
 use Rattle.bc_records.specs.SymbolRecords.{SymbolsRecorded}
 use Rattle.bc_records.specs.BodyRecords.{BodiesRecorded}
-use Rattle.bc_records.specs.ModuleRecords.{ModuleRecord, module_raw, versions, triples, layouts, declarations, declaration_of}
+use Rattle.bc_records.specs.ModuleRecords.{ModuleRecord, module_entry, versions, triples, layouts, declarations, declaration_of}
 use Rattle.bc_records.specs.Ranges.{IsInRange}
 
 -- A block list records a module. No order of blocks or of records is demanded beyond what each table needs;
@@ -20,7 +20,7 @@ pub record Recorded (blocks : Contents) (m : Module) : Type 0 where
   pub one_module : blocks ≡ a_block 8 inner no_more
   pub known_blocks : All (Contains (11 ∷ 12 ∷ 14 ∷ 15 ∷ 17 ∷ [])) (block_ids inner)
   pub records : List ModuleRecord
-  pub spelled : records_in inner ≡ map module_raw records
+  pub spelled : entries_in inner ≡ map module_entry records
   pub version : versions records ≡ 1 ∷ []
   pub triple : triples records ≡ m.triple ∷ []
   pub layout : layouts records ≡ m.layout ∷ []

@@ -2,15 +2,15 @@
 -- "VALUE_SYMTAB_BLOCK Contents").
 use Rattle.std.specs.Prelude.{◌≡◌, ◌≢◌, ◌==◌, ◌<◌, ℕ, suc, if◌then◌else◌, List, [], ◌∷◌, map, All, flat_map}
 use Rattle.bc_stream.specs.Blocks.{Contents}
-use Rattle.bc_records.specs.Raw.{Raw, raw, records_in, block_ids}
+use Rattle.bc_records.specs.Entries.{Entry, entry, entries_in, block_ids}
 
 -- a value number and its name
 pub data SymbolRecord : Type 0 where
   symbol : (value : ℕ) (name : List ℕ) → SymbolRecord
 
 -- ENTRY 1
-abbrev pub symbol_raw : SymbolRecord → Raw
-symbol_raw (symbol value name) = raw 1 (value ∷ name)
+abbrev pub symbol_entry : SymbolRecord → Entry
+symbol_entry (symbol value name) = entry 1 (value ∷ name)
 
 -- the name of a value, which is empty where no record names it
 abbrev pub name_of : List SymbolRecord → ℕ → List ℕ
@@ -36,7 +36,7 @@ NamedFrom value records (name ∷ names) = (name_of records value ≡ name) × N
 -- the blocks name so many values, each at most once
 pub record SymbolsRecorded (values : ℕ) (blocks : List Contents) (names : List (List ℕ)) : Type 0 where
   pub records : List (List SymbolRecord)
-  pub spelled : map records_in blocks ≡ map (map symbol_raw) records
+  pub spelled : map entries_in blocks ≡ map (map symbol_entry) records
   pub no_blocks : flat_map block_ids blocks ≡ []
   pub of_values : All (IsOf values) (flat_map (λ block. block) records)
   pub once : NamesOnce (flat_map (λ block. block) records)

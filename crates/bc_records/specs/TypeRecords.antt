@@ -3,7 +3,7 @@ use Rattle.std.specs.Prelude.{◌≡◌, ℕ, List, [], ◌∷◌, map, length, 
 use Rattle.ir_core.specs.declared.module.Ty.{Ty}
 use Rattle.ir_core.specs.declared.module.Ty.TheVariants.{Void, Metadata, Int, Pointer, Struct, Function}
 use Rattle.bc_stream.specs.Blocks.{Contents}
-use Rattle.bc_records.specs.Raw.{Raw, raw, records_in, block_ids, IsText}
+use Rattle.bc_records.specs.Entries.{Entry, entry, entries_in, block_ids, IsText}
 
 pub data TypeRecord : Type 0 where
   number_of_entries : (n : ℕ) → TypeRecord
@@ -17,27 +17,27 @@ pub data TypeRecord : Type 0 where
 
 -- NUMENTRY 1, VOID 2, INTEGER 7, POINTER 8, METADATA 16, STRUCT_NAME 19, STRUCT_NAMED 20 (not packed),
 -- FUNCTION 21 (without variable arguments)
-abbrev pub type_raw : TypeRecord → Raw
-type_raw (number_of_entries n) = raw 1 (n ∷ [])
-type_raw void_type = raw 2 []
-type_raw (integer_type width) = raw 7 (width ∷ [])
-type_raw (pointer_type to space) = raw 8 (to ∷ space ∷ [])
-type_raw metadata_type = raw 16 []
-type_raw (struct_name name) = raw 19 name
-type_raw (struct_type parts) = raw 20 (0 ∷ parts)
-type_raw (function_type result params) = raw 21 (0 ∷ result ∷ params)
+abbrev pub type_entry : TypeRecord → Entry
+type_entry (number_of_entries n) = entry 1 (n ∷ [])
+type_entry void_type = entry 2 []
+type_entry (integer_type width) = entry 7 (width ∷ [])
+type_entry (pointer_type to space) = entry 8 (to ∷ space ∷ [])
+type_entry metadata_type = entry 16 []
+type_entry (struct_name name) = entry 19 name
+type_entry (struct_type parts) = entry 20 (0 ∷ parts)
+type_entry (function_type result params) = entry 21 (0 ∷ result ∷ params)
 
 -- the entries in order; a struct takes the name that stands last before it, if no struct has taken it
-abbrev pub entries_of : (name : List ℕ) → List TypeRecord → List Ty
-entries_of name [] = []
-entries_of name (number_of_entries n ∷ rest) = entries_of name rest
-entries_of name (void_type ∷ rest) = Void ∷ entries_of name rest
-entries_of name (integer_type width ∷ rest) = Int width ∷ entries_of name rest
-entries_of name (pointer_type to space ∷ rest) = Pointer to space ∷ entries_of name rest
-entries_of name (metadata_type ∷ rest) = Metadata ∷ entries_of name rest
-entries_of name (struct_name next ∷ rest) = entries_of next rest
-entries_of name (struct_type parts ∷ rest) = Struct (Some name) parts ∷ entries_of [] rest
-entries_of name (function_type result params ∷ rest) = Function result params ∷ entries_of name rest
+abbrev pub table_of : (name : List ℕ) → List TypeRecord → List Ty
+table_of name [] = []
+table_of name (number_of_entries n ∷ rest) = table_of name rest
+table_of name (void_type ∷ rest) = Void ∷ table_of name rest
+table_of name (integer_type width ∷ rest) = Int width ∷ table_of name rest
+table_of name (pointer_type to space ∷ rest) = Pointer to space ∷ table_of name rest
+table_of name (metadata_type ∷ rest) = Metadata ∷ table_of name rest
+table_of name (struct_name next ∷ rest) = table_of next rest
+table_of name (struct_type parts ∷ rest) = Struct (Some name) parts ∷ table_of [] rest
+table_of name (function_type result params ∷ rest) = Function result params ∷ table_of name rest
 
 -- the numbers of entries that are stated
 abbrev pub stated_numbers : List TypeRecord → List ℕ
@@ -52,8 +52,8 @@ IsTypeText _ = Unit {0}
 -- the block holds a type table, and states its number of entries once
 pub record TypesRecorded (block : Contents) (types : List Ty) : Type 0 where
   pub records : List TypeRecord
-  pub spelled : records_in block ≡ map type_raw records
+  pub spelled : entries_in block ≡ map type_entry records
   pub no_blocks : block_ids block ≡ []
-  pub entries : entries_of [] records ≡ types
+  pub entries : table_of [] records ≡ types
   pub number : stated_numbers records ≡ length types ∷ []
   pub texts : All IsTypeText records

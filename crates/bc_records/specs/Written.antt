@@ -16,27 +16,30 @@ use Rattle.ir_core.specs.declared.module.Function.{Function}
 use Rattle.ir_core.specs.declared.module.Module.{Module}
 use Rattle.ir_core.specs.Values.{instructions, function_at, bodies}
 use Rattle.bc_stream.specs.Blocks.{Contents, no_more, a_record, a_block}
-use Rattle.bc_records.specs.Raw.{Raw, raw}
-use Rattle.bc_records.specs.TypeRecords.{TypeRecord, number_of_entries, void_type, integer_type, pointer_type, metadata_type, struct_name, struct_type, function_type, type_raw}
-use Rattle.bc_records.specs.ConstantRecords.{ConstantRecord, set_type, null_constant, undef_constant, integer_constant, constant_raw}
-use Rattle.bc_records.specs.MetadataRecords.{MetadataRecord, string_metadata, value_metadata, node_metadata, named_metadata, metadata_raws}
-use Rattle.bc_records.specs.SymbolRecords.{SymbolRecord, symbol, symbol_raw}
-use Rattle.bc_records.specs.BodyRecords.{BodyRecord, declare_blocks, return_record, call_record, body_raw, first_value, next_value}
-use Rattle.bc_records.specs.ModuleRecords.{ModuleRecord, function_record, module_raw, prototype_of}
+use Rattle.bc_records.specs.Entries.{Entry, entry}
+use Rattle.bc_records.specs.TypeRecords.{TypeRecord, number_of_entries, void_type, integer_type, pointer_type, metadata_type, struct_name, struct_type, function_type, type_entry}
+use Rattle.bc_records.specs.ConstantRecords.{ConstantRecord, set_type, null_constant, undef_constant, integer_constant, constant_entry}
+use Rattle.bc_records.specs.MetadataRecords.{MetadataRecord, string_metadata, value_metadata, node_metadata, named_metadata, metadata_entries}
+use Rattle.bc_records.specs.SymbolRecords.{SymbolRecord, symbol, symbol_entry}
+use Rattle.bc_records.specs.BodyRecords.{BodyRecord, declare_blocks, return_record, call_record, body_entry, first_value, next_value}
+use Rattle.bc_records.specs.ModuleRecords.{ModuleRecord, function_record, module_entry, prototype_of}
 
 -- records, and then the rest
-abbrev pub listed : List Raw → Contents → Contents
+abbrev pub listed : List Entry → Contents → Contents
 listed [] rest = rest
-listed (raw code operands ∷ raws) rest = a_record code operands (listed raws rest)
+listed (entry code operands ∷ entries) rest = a_record code operands (listed entries rest)
 
 -- types: each struct directly after its name
+
+abbrev pub struct_records : List ℕ → List ℕ → List TypeRecord
+struct_records name parts = struct_name name ∷ struct_type parts ∷ []
 
 abbrev pub type_records : Ty → List TypeRecord
 type_records Void = void_type ∷ []
 type_records (IntType width) = integer_type width ∷ []
 type_records (Pointer to space) = pointer_type to space ∷ []
 type_records Metadata = metadata_type ∷ []
-type_records (Struct (Some name) parts) = struct_name name ∷ struct_type parts ∷ []
+type_records (Struct (Some name) parts) = struct_records name parts
 type_records (FunctionType result params) = function_type result params ∷ []
 type_records _ = []
 
@@ -44,7 +47,7 @@ abbrev pub written_types : List Ty → List TypeRecord
 written_types types = number_of_entries (length types) ∷ flat_map type_records types
 
 abbrev pub types_contents : List Ty → Contents
-types_contents types = listed (map type_raw (written_types types)) no_more
+types_contents types = listed (map type_entry (written_types types)) no_more
 
 -- constants: a type is set where it isn't the last one's
 
@@ -66,7 +69,7 @@ written_constants last_type [] = []
 written_constants last_type (c ∷ cs) = set_before last_type c.ty (constant_record c.value ∷ written_constants (Some c.ty) cs)
 
 abbrev pub constants_contents : List Const → Contents
-constants_contents constants = listed (map constant_raw (written_constants None constants)) no_more
+constants_contents constants = listed (map constant_entry (written_constants None constants)) no_more
 
 -- metadata
 
@@ -86,7 +89,7 @@ abbrev pub written_metadata : List Meta → List Named → List MetadataRecord
 written_metadata metas named = map meta_record metas ++ map named_record named
 
 abbrev pub metadata_contents : List Meta → List Named → Contents
-metadata_contents metas named = listed (flat_map metadata_raws (written_metadata metas named)) no_more
+metadata_contents metas named = listed (flat_map metadata_entries (written_metadata metas named)) no_more
 
 -- the names of functions
 
@@ -95,7 +98,7 @@ symbols_from value [] = []
 symbols_from value (f ∷ fs) = symbol value f.name ∷ symbols_from (suc value) fs
 
 abbrev pub symbols_contents : List Function → Contents
-symbols_contents functions = listed (map symbol_raw (symbols_from 0 functions)) no_more
+symbols_contents functions = listed (map symbol_entry (symbols_from 0 functions)) no_more
 
 -- bodies
 
@@ -120,12 +123,12 @@ abbrev pub body_contents : Module → Function → Body → Contents
 body_contents m f body =
     a_record 1 (length body.blocks ∷ [])
     (a_block 11 (constants_contents body.consts)
-    (listed (map body_raw (written_code m (first_value m f body) (instructions body))) no_more))
+    (listed (map body_entry (written_code m (first_value m f body) (instructions body))) no_more))
 
 -- the module
 
-abbrev pub function_raw : Function → Raw
-function_raw f = module_raw (function_record f.ty 0 (prototype_of f.body) 0 (replicate 11 0))
+abbrev pub function_entry : Function → Entry
+function_entry f = module_entry (function_record f.ty 0 (prototype_of f.body) 0 (replicate 11 0))
 
 abbrev pub bodies_contents : Module → List (Function × Body) → Contents
 bodies_contents m [] = no_more
@@ -137,7 +140,7 @@ module_contents m =
     (a_block 17 (types_contents m.types)
     (a_record 2 m.triple
     (a_record 3 m.layout
-    (listed (map function_raw m.functions)
+    (listed (map function_entry m.functions)
     (a_block 11 (constants_contents m.consts)
     (a_block 15 (metadata_contents m.metas m.named)
     (a_block 14 (symbols_contents m.functions)

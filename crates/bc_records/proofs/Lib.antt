@@ -11,3 +11,5 @@ pub mod Steps
 pub mod ConstantSteps
 pub mod MetadataSteps
 pub mod SymbolSteps
+pub mod ValueLemmas
+pub mod CodeSteps

@@ -109,15 +109,23 @@ relative next value = (next + 2 ^ 32 - value) % 2 ^ 32
 abbrev pub type_number : Module → ℕ → ℕ
 type_number m function = option_map_or (λ f. f.ty) (function_at m function) 0
 
-abbrev pub inst_records : Module → ℕ → Inst → List BodyRecord
-inst_records m next (Call function args) =
+abbrev pub call_records : Module → (next function : ℕ) → List ℕ → List BodyRecord
+call_records m next function args =
     call_record 0 (2 ^ 15) (type_number m function) (relative next function) (map (relative next) args) ∷ []
+
+abbrev pub inst_records : Module → (next : ℕ) → Inst → List BodyRecord
+inst_records m next (Call function args) = call_records m next function args
 inst_records m next Ret = return_record ∷ []
 inst_records m next _ = []
 
 abbrev pub written_code : Module → ℕ → List Inst → List BodyRecord
 written_code m next [] = []
 written_code m next (inst ∷ insts) = inst_records m next inst ++ written_code m (next_value m next inst) insts
+
+-- the number of the next value after instructions
+abbrev pub value_after : Module → ℕ → List Inst → ℕ
+value_after m next [] = next
+value_after m next (inst ∷ insts) = value_after m (next_value m next inst) insts
 
 abbrev pub body_contents : Module → Function → Body → Contents
 body_contents m f body =
@@ -134,17 +142,19 @@ abbrev pub bodies_contents : Module → List (Function × Body) → Contents
 bodies_contents m [] = no_more
 bodies_contents m (first ∷ rest) = a_block 12 (body_contents m first.0 first.1) (bodies_contents m rest)
 
+-- the version, the type table, the triple and the data layout, and then the rest
+abbrev pub header_contents : Module → Contents → Contents
+header_contents m rest =
+    a_record 1 (1 ∷ []) (a_block 17 (types_contents m.types) (a_record 2 m.triple (a_record 3 m.layout rest)))
+
+-- the module's constants, its metadata and its names, and then the rest
+abbrev pub tables_contents : Module → Contents → Contents
+tables_contents m rest =
+    a_block 11 (constants_contents m.consts) (a_block 15 (metadata_contents m.metas m.named) (a_block 14 (symbols_contents m.functions) rest))
+
 abbrev pub module_contents : Module → Contents
 module_contents m =
-    a_record 1 (1 ∷ [])
-    (a_block 17 (types_contents m.types)
-    (a_record 2 m.triple
-    (a_record 3 m.layout
-    (listed (map function_entry m.functions)
-    (a_block 11 (constants_contents m.consts)
-    (a_block 15 (metadata_contents m.metas m.named)
-    (a_block 14 (symbols_contents m.functions)
-    (bodies_contents m (bodies m.functions)))))))))
+    header_contents m (listed (map function_entry m.functions) (tables_contents m (bodies_contents m (bodies m.functions))))
 
 abbrev pub written : Module → Contents
 written m = a_block 8 (module_contents m) no_more

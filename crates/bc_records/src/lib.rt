@@ -1,9 +1,14 @@
 //! Modules as blocks and records (LLVM Bitcode File Format, "LLVM IR Encoding").
 #![tactic(auto)]
 
+mod code;
 mod codes;
 mod constants;
 mod metadata;
 mod push;
 mod symbols;
 mod types;
+mod values;
+mod write;
+
+pub use write::to_blocks;

@@ -40,6 +40,9 @@ pub type Words = Sequence<u32>;
 /// The bytes of a name or another text.
 pub type Text = Sequence<u8>;
 
+/// The numbers of calls, counted from 0.
+pub type Calls = Sequence<u64>;
+
 /// The greatest number of parts.
 const MOST_PARTS: usize = 2147483647;
 

@@ -4,8 +4,7 @@ ghost use Rattle.std.specs.Prelude.{◌≡◌, [], ◌∷◌, ◌^◌, ◌<◌, 
 ghost use Rattle.ir_core.specs.Soundness.{IsWhole};
 ghost use Rattle.ir_core.specs.Values.{bodies};
 ghost use Rattle.bc_stream.specs.Blocks.{append, contents_of, no_more, parts_contents};
-ghost use Rattle.bc_stream.specs.Writing.{MayStand};
-ghost use Rattle.bc_records.specs.Entries.{IsText, IsWord, block_count};
+ghost use Rattle.bc_records.specs.Entries.{IsText, IsWord, MayStand, block_count};
 ghost use Rattle.bc_records.specs.FirstList.{IsListed};
 ghost use Rattle.bc_records.specs.Ranges.{BodyInRange, ConstInRange, IsInRange, MetaInRange, NamedInRange, TypeInRange};
 ghost use Rattle.bc_records.specs.Records.{Recorded};

@@ -1,13 +1,12 @@
-// A library with one function.
+//! The container that holds a shader's bitcode, written and read.
 #![tactic(auto)]
 
-ghost use Rattle.std.specs.Prelude.{◌≡◌};
-ghost use Rattle.dx_container.specs.Echo.{echo_of};
+mod content;
+mod field;
+pub mod laws;
+#[cfg(test)]
+mod tests;
+mod written;
 
-// The `ensures` clause is the contract: what `echo` returns is `echo_of` of its argument, a definition
-// in `specs/Echo.antt`, which a caller's clause can cite too.
-pub fn echo(x: usize) -> usize
-    ensures { result ≡ echo_of x }
-{
-    x
-}
+pub use content::{ContainerFault, Unpacked, unpack};
+pub use written::{PackInfo, pack};

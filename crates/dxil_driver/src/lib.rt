@@ -1,13 +1,7 @@
-// A library with one function.
+//! The calls of the compiler: from a text to a container.
 #![tactic(auto)]
 
-ghost use Rattle.std.specs.Prelude.{◌≡◌};
-ghost use Rattle.dxil_driver.specs.Echo.{echo_of};
+mod emit;
+mod stores;
 
-// The `ensures` clause is the contract: what `echo` returns is `echo_of` of its argument, a definition
-// in `specs/Echo.antt`, which a caller's clause can cite too.
-pub fn echo(x: usize) -> usize
-    ensures { result ≡ echo_of x }
-{
-    x
-}
+pub use stores::{FirstForm, LiteralStore, LiteralStores};

@@ -1,2 +1,11 @@
 pub mod Soundness
+pub mod Spots
+pub mod ValidatorRules
 pub mod Values
+pub mod Waves
+pub mod MetadataTree
+pub mod Metadata
+pub mod Operations
+pub mod Machine
+pub mod Calls
+pub mod ModuleLane

@@ -29,7 +29,7 @@ prefix_refl a = ([], append-nil a)
 pub prefix_trans : (a b c : List Event) → IsPrefix a b → IsPrefix b c → IsPrefix a c
 prefix_trans a b c p q = (p.0 ++ q.0, sym (append_assoc a p.0 q.0) ∙ ap (λ l. l ++ q.0) p.1 ∙ q.1)
 
-grows_refl : (a : Option Run) → GrowsTo a a
+pub grows_refl : (a : Option Run) → GrowsTo a a
 grows_refl None = refl
 grows_refl (Some run) =
     (λ _. refl, λ further e. subst (λ r. IsPrefix run.events r.events) (some_is run further e) (prefix_refl run.events))

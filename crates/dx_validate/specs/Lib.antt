@@ -1,0 +1,4 @@
+pub mod Verdict
+pub mod Places
+pub mod Bodies
+pub mod Answer

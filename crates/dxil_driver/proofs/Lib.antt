@@ -1,0 +1,4 @@
+pub mod Assembled
+pub mod Pushes
+pub mod StoresLane
+pub mod WordPlaces

@@ -1,0 +1,2 @@
+pub mod SteadyMachine
+pub mod Runs

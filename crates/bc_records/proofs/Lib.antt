@@ -13,3 +13,5 @@ pub mod MetadataSteps
 pub mod SymbolSteps
 pub mod ValueLemmas
 pub mod CodeSteps
+pub mod ModuleSteps
+pub mod WrittenBlocks

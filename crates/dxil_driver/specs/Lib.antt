@@ -7,3 +7,4 @@ pub mod Tool
 pub mod Tokens
 pub mod FirstForm
 pub mod Reading
+pub mod Kernel

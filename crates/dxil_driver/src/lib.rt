@@ -3,6 +3,7 @@
 
 pub mod commands;
 pub mod compiler;
+mod container;
 mod emit;
 mod first_form;
 pub mod refusal;

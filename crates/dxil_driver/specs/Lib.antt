@@ -1,3 +1,4 @@
 pub mod Emitted
+pub mod KernelMetadata
 pub mod LiteralLane
 pub mod Places

@@ -1,4 +1,5 @@
 pub mod Assembled
+pub mod EmittedMetadata
 pub mod EmittedWhole
 pub mod OneWord
 pub mod Parts

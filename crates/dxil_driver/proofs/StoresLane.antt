@@ -32,7 +32,7 @@ kept_by : (w : ℕ) (small : Bool) → nat_lt w (2 ^ 31) ≡ small → w < 2 ^ 3
 kept_by w true e h = omega arith
 kept_by w false e h = omega arith
 
-word_kept : (w : ℕ) → w < 2 ^ 32 → low_bits 32 (signed_word w) ≡ w
+pub word_kept : (w : ℕ) → w < 2 ^ 32 → low_bits 32 (signed_word w) ≡ w
 word_kept w h = kept_by w (nat_lt w (2 ^ 31)) refl h
 
 -- what the stores read: the opcode, the mask, the handle and the words

@@ -1,4 +1,5 @@
 pub mod Emitted
+pub mod KernelMetadata
 pub mod LiteralLane
 pub mod Places
 pub mod Compiled

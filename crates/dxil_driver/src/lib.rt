@@ -2,6 +2,8 @@
 #![tactic(auto)]
 
 mod emit;
+mod first_form;
+mod scan;
 mod stores;
 
 pub use stores::{FirstForm, LiteralStore, LiteralStores};

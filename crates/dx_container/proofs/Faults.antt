@@ -27,20 +27,14 @@ not_3 bytes d e o (other_version h) = h (d, e)
 not_4 : (bytes : List ℕ) → word_at bytes 24 ≡ length bytes → (o : ℕ) → ¬ HasFault bytes 4 o
 not_4 bytes e o (other_size h) = h e
 
-not_5 : (bytes : List ℕ) → 32 + 4 * part_count bytes ≤ length bytes → (o : ℕ) → ¬ HasFault bytes 5 o
-not_5 bytes room o (many_parts h) = omega arith
-
 -- a part stands whole
 abbrev pub Stands : List ℕ → ℕ → Type 0
 Stands bytes k = part_place bytes k + 8 + body_size bytes (part_place bytes k) ≤ length bytes
 
-not_6 : (bytes : List ℕ) → ((k : ℕ) → k < part_count bytes → Stands bytes k) → (o : ℕ) → ¬ HasFault bytes 6 o
-not_6 bytes stand o (long_part k h passes) = let a = stand k h in omega arith
-
 not_7 : (bytes : List ℕ) (k : ℕ) → IsOnlyProgram bytes k → (o : ℕ) → ¬ HasFault bytes 7 o
 not_7 bytes k only o (no_only_program h) = h k only
 
--- what is behind a fact that leaves no fault of the kinds up to it
+-- each fact leaves one more kind behind
 pub below_2 : (bytes : List ℕ) → 32 ≤ length bytes → NoFaultBelow bytes 2
 below_2 bytes long = next_kind bytes 1 (below_1 bytes) (not_1 bytes long)
 
@@ -52,12 +46,6 @@ below_4 bytes below first second = next_kind bytes 3 below (not_3 bytes first se
 
 pub below_5 : (bytes : List ℕ) → NoFaultBelow bytes 4 → word_at bytes 24 ≡ length bytes → NoFaultBelow bytes 5
 below_5 bytes below total = next_kind bytes 4 below (not_4 bytes total)
-
-pub below_6 : (bytes : List ℕ) → NoFaultBelow bytes 5 → 32 + 4 * part_count bytes ≤ length bytes → NoFaultBelow bytes 6
-below_6 bytes below room = next_kind bytes 5 below (not_5 bytes room)
-
-pub below_7 : (bytes : List ℕ) → NoFaultBelow bytes 6 → ((k : ℕ) → k < part_count bytes → Stands bytes k) → NoFaultBelow bytes 7
-below_7 bytes below stand = next_kind bytes 6 below (not_6 bytes stand)
 
 pub below_8 : (bytes : List ℕ) (k : ℕ) → NoFaultBelow bytes 7 → IsOnlyProgram bytes k → NoFaultBelow bytes 8
 below_8 bytes k below only = next_kind bytes 7 below (not_7 bytes k only)

@@ -1,6 +1,6 @@
 -- The part with the name `DXIL`, among the first parts.
-use Rattle.std.proofs.Common.{true, false, is_some, ◌≡◌, ℕ, ◌+◌, ◌<◌, List, Option, Some, None, refl, subst, arith}
-use Rattle.dx_container.specs.Container.{name_at, part_count, part_place, program_name, IsOnlyProgram, StandsAt}
+use Rattle.std.proofs.Common.{true, false, is_some, ◌≡◌, ℕ, ◌<◌, List, Option, Some, None, subst, arith}
+use Rattle.dx_container.specs.Container.{name_at, part_count, part_place, program_name, IsOnlyProgram}
 
 -- part j has the name
 abbrev pub Named : List ℕ → ℕ → Type 0
@@ -18,52 +18,6 @@ pub record OneBelow (bytes : List ℕ) (k part : ℕ) : Type 0 where
 abbrev pub FoundBelow : List ℕ → ℕ → Option ℕ → Type 0
 FoundBelow bytes k None = (j : ℕ) → j < k → ¬ Named bytes j
 FoundBelow bytes k (Some part) = OneBelow bytes k part
-
--- a part without the name changes nothing
-pass_none : (bytes : List ℕ) (k : ℕ) → ((j : ℕ) → j < k → ¬ Named bytes j) → ¬ Named bytes k → (j : ℕ) → j < k + 1 → ¬ Named bytes j
-pass_none bytes k f h j within named =
-    let a : ¬ (j < k) = λ b. f j b named in
-    let e : j ≡ k = omega arith in
-    h (subst (λ (i : ℕ). Named bytes i) e named)
-
-pass_one : (bytes : List ℕ) (k part : ℕ) → OneBelow bytes k part → ¬ Named bytes k → OneBelow bytes (k + 1) part
-pass_one bytes k part f h =
-    record {
-      index = f.index;
-      below = let a = f.below in omega arith;
-      named = f.named;
-      only = λ j within named.
-          let a : ¬ (j ≡ k) = λ e. h (subst (λ (i : ℕ). Named bytes i) e named) in
-          f.only j (omega arith) named;
-      place-is = f.place-is;
-    }
-
-pub found_none : (bytes : List ℕ) (k : ℕ) (found : Option ℕ) → FoundBelow bytes k found → ¬ Named bytes k → FoundBelow bytes (k + 1) found
-found_none bytes k None f h = pass_none bytes k f h
-found_none bytes k (Some part) f h = pass_one bytes k part f h
-
--- the first part with the name
-pub found_first : (bytes : List ℕ) (k : ℕ) → ((j : ℕ) → j < k → ¬ Named bytes j) → Named bytes k → OneBelow bytes (k + 1) (part_place bytes k)
-found_first bytes k none h =
-    record {
-      index = k;
-      below = omega arith;
-      named = h;
-      only = λ j within named. let a : ¬ (j < k) = λ b. none j b named in omega arith;
-      place-is = refl;
-    }
-
--- the only one among all parts
-pub found_only : (bytes : List ℕ) (part : ℕ) → OneBelow bytes (part_count bytes) part → StandsAt bytes part
-found_only bytes part f =
-    record {
-      index = f.index;
-      only = record {
-        program = record { counted = f.below; named = f.named };
-        only = λ j at_j. f.only j at_j.counted at_j.named;
-      };
-      place-is = f.place-is;
-    }
 
 -- a second part with the name: none is the only one
 pub found_second : (bytes : List ℕ) (k part : ℕ) → k < part_count bytes → OneBelow bytes k part → Named bytes k → (i : ℕ) → ¬ IsOnlyProgram bytes i

@@ -3,11 +3,10 @@
 -- The bytes are the written form of a container. They spell exactly one module. Its target, its metadata and its
 -- entry are those of the kernel that the text is. A lane of it asks the very events that a lane of the text asks,
 -- for every list of replies, and ends where that one ends.
-use Rattle.std.specs.Prelude.{◌≡◌, ℕ, List, [], ◌∷◌, Option, Some, None, codes, slice_index}
-use Rattle.lane_core.specs.Lane.{Coordinates}
+use Rattle.std.specs.Prelude.{◌≡◌, ℕ, List, codes}
 use Rattle.lane_core.specs.SameLane.{SameLane}
 use Rattle.ir_core.specs.declared.module.Module.{Module}
-use Rattle.ir_core.specs.Metadata.{NamedResource, HasMetadata, raw_kind, writable}
+use Rattle.ir_core.specs.Metadata.{HasMetadata}
 use Rattle.ir_core.specs.ModuleLane.{module_lane}
 use Rattle.ir_core.specs.Waves.{uses_waves}
 use Rattle.bc_stream.specs.Blocks.{Contents}
@@ -16,6 +15,7 @@ use Rattle.bc_records.specs.Records.{Recorded}
 use Rattle.dx_container.specs.Container.{Contained, written_form}
 use Rattle.dxil_driver.specs.declared.stores.FirstForm.{FirstForm}
 use Rattle.dxil_driver.specs.FirstForm.{IsFirstForm}
+use Rattle.dxil_driver.specs.KernelMetadata.{kernel_resources, kernel_threads}
 use Rattle.dxil_driver.specs.LiteralLane.{literal_stores}
 
 -- how many bytes a source may have: 2^20
@@ -41,20 +41,6 @@ pub record IsWritten (bytes : List ℕ) (m : Module) : Type 0 where
   pub bitcode : List ℕ
   pub form : bytes ≡ written_form bitcode 0 (uses_waves m)
 
--- the buffer of a kernel as a resource: writable, raw, in register u0 of space 0
-abbrev pub output_buffer : (name : List ℕ) → NamedResource
-output_buffer name = record {
-  name = name;
-  resource = record { class = writable; id = 0; space = 0; register = 0; size = 1; kind = raw_kind; stride = 1 };
-}
-
-abbrev pub resources_of_form : Option (List ℕ) → List NamedResource
-resources_of_form None = []
-resources_of_form (Some name) = output_buffer name ∷ []
-
-abbrev pub threads_of_form : List ℕ → Coordinates
-threads_of_form threads = record { x = slice_index threads 0; y = slice_index threads 1; z = slice_index threads 2 }
-
 -- the entry's name
 abbrev pub entry_name : List ℕ
 entry_name = codes "main"
@@ -64,7 +50,7 @@ pub record IsContainerOf (form : FirstForm) (m : Module) (bytes : List ℕ) : Ty
   pub written : IsWritten bytes m
   pub spells : Spells bytes m
   pub only : (other : Module) → Spells bytes other → other ≡ m
-  pub metadata : HasMetadata m (resources_of_form form.buffer) (threads_of_form form.threads) entry_name
+  pub metadata : HasMetadata m (kernel_resources form.buffer) (kernel_threads form.threads) entry_name
   pub same : SameLane (literal_stores form.stores) (module_lane m)
 
 -- the bytes are a container for the text

@@ -1,5 +1,5 @@
 -- The module of a kernel, and what its bitcode is, before it stands in a container.
-use Rattle.std.specs.Prelude.{◌≡◌, Bool, false, List, ℕ}
+use Rattle.std.specs.Prelude.{◌≡◌, false, List, ℕ}
 use Rattle.lane_core.specs.SameLane.{SameLane}
 use Rattle.ir_core.specs.declared.module.Module.{Module}
 use Rattle.ir_core.specs.Metadata.{HasMetadata}
@@ -10,11 +10,12 @@ use Rattle.bc_stream.specs.Spelling.{Spelled}
 use Rattle.bc_records.specs.Records.{Recorded}
 use Rattle.dxil_driver.specs.declared.stores.FirstForm.{FirstForm}
 use Rattle.dxil_driver.specs.LiteralLane.{literal_stores}
-use Rattle.dxil_driver.specs.Compiled.{resources_of_form, threads_of_form, entry_name}
+use Rattle.dxil_driver.specs.Compiled.{entry_name}
+use Rattle.dxil_driver.specs.KernelMetadata.{kernel_resources, kernel_threads}
 
 -- the module has the metadata and the lane of a kernel, and no wave operation
 pub record IsKernelOf (form : FirstForm) (m : Module) : Type 0 where
-  pub metadata : HasMetadata m (resources_of_form form.buffer) (threads_of_form form.threads) entry_name
+  pub metadata : HasMetadata m (kernel_resources form.buffer) (kernel_threads form.threads) entry_name
   pub same : SameLane (literal_stores form.stores) (module_lane m)
   pub waveless : uses_waves m ≡ false
 

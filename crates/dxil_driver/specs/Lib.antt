@@ -1,11 +1,11 @@
+pub mod Compiled
 pub mod Emitted
+pub mod FirstForm
+pub mod Kernel
 pub mod KernelMetadata
 pub mod LiteralLane
 pub mod Places
-pub mod Compiled
-pub mod Refusal
-pub mod Tool
-pub mod Tokens
-pub mod FirstForm
 pub mod Reading
-pub mod Kernel
+pub mod Refusal
+pub mod Tokens
+pub mod Tool

@@ -56,7 +56,6 @@ pub fn kernel_container(alloc: Global, form: &FirstForm) -> Result<Bytes, NoMemo
     laws::at_most_one_content();
     laws::written_is_contained();
     bc_stream::laws::one_list();
-    bc_records::laws::one_module();
     let bitcode = kernel_bitcode(alloc, form)?;
     let info = PackInfo {
         minor: MINOR_VERSION,

@@ -1,23 +1,23 @@
 -- The written body records the body.
-use Rattle.std.proofs.Common.{◌≡◌, ℕ, suc, ◌+◌, ◌<◌, ◌^◌, Bool, true, false, List, [], ◌∷◌, ◌++◌, Some, None, Option, map, length, refl, ap, sym, ◌∙◌, subst, arith, lit<}
-use Rattle.std.specs.Prelude.{All, Contains, flat_map, slice_get, option_and_then, MatchOption, IsTrue, IsFalse, if◌then◌else◌, replicate}
+use Rattle.std.proofs.Common.{◌≡◌, ℕ, ◌<◌, List, [], ◌∷◌, ◌++◌, Some, None, Option, map, length, refl, ap, sym, ◌∙◌, subst, lit<}
+use Rattle.std.specs.Prelude.{All, Contains, flat_map, option_and_then, MatchOption, if◌then◌else◌}
 use Rattle.std.proofs.lemmas.List.{append-nil}
 use Rattle.std.proofs.lemmas.List.Elements.{All-nil, All-cons, All-head, All-tail}
 use Rattle.ir_core.specs.declared.instruction.Inst.{Inst}
-use Rattle.ir_core.specs.declared.instruction.Inst.TheVariants.{Bin, Cast, Cmp, Select, Phi, Alloca, Gep, Load, Store, Extract, Call, Rmw, CmpXchg, Jump, Branch, Ret}
+use Rattle.ir_core.specs.declared.instruction.Inst.TheVariants.{Call, Ret}
 use Rattle.ir_core.specs.declared.instruction.Block.{Block}
 use Rattle.ir_core.specs.declared.instruction.Body.{Body}
 use Rattle.ir_core.specs.declared.module.Function.{Function}
 use Rattle.ir_core.specs.declared.module.Module.{Module}
 use Rattle.ir_core.specs.Values.{instructions, function_at, signature}
-use Rattle.ir_core.specs.Soundness.{IsSoundInst, Takes, EndsOnce, ends_block}
+use Rattle.ir_core.specs.Soundness.{IsSoundInst, Takes, EndsOnce}
 use Rattle.bc_stream.specs.Blocks.{no_more}
-use Rattle.bc_records.specs.Entries.{IsWord, entries_in, block_ids, blocks_in}
+use Rattle.bc_records.specs.Entries.{IsWord}
 use Rattle.bc_records.specs.ConstantRecords.{ConstantsRecorded}
-use Rattle.bc_records.specs.BodyRecords.{BodyRecord, declare_blocks, body_entry, declared_blocks, instruction_records, InstructionsRecorded, InstructionRecorded, IsTypeOf, absolute, first_value, next_value, filled_blocks, before_first, BodyRecorded}
+use Rattle.bc_records.specs.BodyRecords.{declare_blocks, body_entry, declared_blocks, instruction_records, InstructionsRecorded, IsTypeOf, absolute, first_value, next_value, filled_blocks, before_first, BodyRecorded}
 use Rattle.bc_records.specs.FirstList.{IsListedInst}
 use Rattle.bc_records.specs.Ranges.{InstInRange, AreWords}
-use Rattle.bc_records.specs.Written.{relative, type_number, inst_records, written_code, constants_contents, body_contents}
+use Rattle.bc_records.specs.Written.{relative, type_number, written_code, constants_contents, body_contents}
 use Rattle.bc_records.proofs.ListedLemmas.{entries_in-alone, block_ids-listed, blocks_in-listed}
 use Rattle.bc_records.proofs.ConstantsWritten.{constants_written}
 use Rattle.bc_records.proofs.Numbers.{absolute-relative, relative-below}
@@ -52,10 +52,15 @@ module _ (m : Module) (values blocks : ℕ) where
       let facts : IsSoundInst m values blocks (Call function args) = All-head (IsSoundInst m values blocks) (Call function args) insts sound in
       let callee : absolute next (relative next function) ≡ function = absolute-relative next function ranges.0 in
       let is : Call function args ≡ Call (absolute next (relative next function)) (map (absolute next) (map (relative next) args))
-        = ap (λ f. Call f args) (sym callee) ∙ ap (Call (absolute next (relative next function))) (sym (operands_back next args ranges.1)) in
-      ((is, refl, subst (λ f. IsTypeOf m f (type_number m function)) (sym callee) (type_of_callee m function (length args) facts.0),
-      All-cons IsWord (relative next function) (map (relative next) args) (relative-below next function) (relative_words next args)),
-      code_written (next_value m next (Call function args)) insts (All-tail IsListedInst (Call function args) insts listed) (All-tail InstInRange (Call function args) insts in_range) (All-tail (IsSoundInst m values blocks) (Call function args) insts sound))
+      = ap (λ f. Call f args) (sym callee) ∙ ap (Call (absolute next (relative next function))) (sym (operands_back next args ranges.1)) in (
+        (
+          is,
+          refl,
+          subst (λ f. IsTypeOf m f (type_number m function)) (sym callee) (type_of_callee m function (length args) facts.0),
+          All-cons IsWord (relative next function) (map (relative next) args) (relative-below next function) (relative_words next args),
+        ),
+        code_written (next_value m next (Call function args)) insts (All-tail IsListedInst (Call function args) insts listed) (All-tail InstInRange (Call function args) insts in_range) (All-tail (IsSoundInst m values blocks) (Call function args) insts sound),
+      )
   code_written next (inst ∷ insts) listed in_range sound = absurd (All-head IsListedInst inst insts listed)
 
 no_declarations : (m : Module) (next : ℕ) (insts : List Inst) → declared_blocks (written_code m next insts) ≡ []
@@ -87,10 +92,10 @@ body_written m f body values consts sound ended listed_insts in_range = record {
   records = declare_blocks (length body.blocks) ∷ written_code m (first_value m f body) (instructions body);
   spelled = ap (λ entries. body_entry (declare_blocks (length body.blocks)) ∷ entries) (entries_in-alone (map body_entry (written_code m (first_value m f body) (instructions body))));
   known_blocks = subst (λ ids. All (Contains (11 ∷ 14 ∷ 15 ∷ [])) (11 ∷ ids)) (sym (block_ids-listed (map body_entry (written_code m (first_value m f body) (instructions body))) no_more))
-    (All-cons (Contains (11 ∷ 14 ∷ 15 ∷ [])) 11 [] (0, lit< tt, refl) (All-nil (Contains (11 ∷ 14 ∷ 15 ∷ []))));
+      (All-cons (Contains (11 ∷ 14 ∷ 15 ∷ [])) 11 [] (0, lit< tt, refl) (All-nil (Contains (11 ∷ 14 ∷ 15 ∷ []))));
   constants = subst (λ blocks. ConstantsRecorded (length m.types) (constants_contents body.consts ∷ blocks) body.consts)
-    (sym (blocks_in-listed 11 (map body_entry (written_code m (first_value m f body) (instructions body))) no_more))
-    (constants_written (length m.types) body.consts consts);
+      (sym (blocks_in-listed 11 (map body_entry (written_code m (first_value m f body) (instructions body))) no_more))
+      (constants_written (length m.types) body.consts consts);
   number = ap (λ ns. length body.blocks ∷ ns) (no_declarations m (first_value m f body) (instructions body));
   code = code_written m values (length body.blocks) (first_value m f body) (instructions body) listed_insts in_range sound;
   empty = 0;

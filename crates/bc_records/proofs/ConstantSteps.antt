@@ -1,13 +1,12 @@
 -- One constant more.
-use Rattle.std.proofs.Common.{◌≡◌, ℕ, ◌+◌, ◌<◌, ◌≤◌, Bool, true, false, List, [], ◌∷◌, ◌++◌, Some, None, Option, map, length, drop, get_or, refl, ap, sym, ◌∙◌, append_assoc}
+use Rattle.std.proofs.Common.{◌≡◌, ℕ, ◌+◌, ◌<◌, ◌≤◌, true, false, List, [], ◌∷◌, ◌++◌, Some, None, Option, map, length, drop, get_or, refl, ap, sym, ◌∙◌, append_assoc}
 use Rattle.std.specs.Prelude.{◌==◌, if◌then◌else◌}
 use Rattle.std.proofs.lemmas.List.{drop_more, drop_all, map-append}
 use Rattle.ir_core.specs.declared.module.Const.{Const}
 use Rattle.bc_stream.specs.Blocks.{Contents, no_more, append}
 use Rattle.bc_stream.proofs.BlockLemmas.{append-append}
-use Rattle.bc_records.specs.Entries.{Entry}
 use Rattle.bc_records.specs.ConstantRecords.{ConstantRecord, set_type, constant_entry}
-use Rattle.bc_records.specs.Written.{listed, constant_record, set_before, written_constants, constants_contents}
+use Rattle.bc_records.specs.Written.{listed, constant_record, set_before, written_constants}
 use Rattle.bc_records.proofs.Numbers.{test_same}
 use Rattle.bc_records.proofs.Steps.{alone, alone-append, append_none, one_step}
 
@@ -24,7 +23,7 @@ own_records last_type ty first rest =
     ∙ (map-append constant_entry (set_before last_type ty []) (first ∷ rest)
     ∙ (sym (append_assoc (map constant_entry (set_before last_type ty [])) (constant_entry first ∷ []) (map constant_entry rest))
     ∙ ap (λ es. es ++ map constant_entry rest)
-      (sym (map-append constant_entry (set_before last_type ty []) (first ∷ [])) ∙ ap (map constant_entry) (sym (set_before-append last_type ty (first ∷ []))))))
+    (sym (map-append constant_entry (set_before last_type ty []) (first ∷ [])) ∙ ap (map constant_entry) (sym (set_before-append last_type ty (first ∷ []))))))
 
 -- a type that is set already
 pub kept : (old : Contents) (last_type : Option ℕ) (last ty : ℕ) → last_type ≡ Some last → last ≡ ty →

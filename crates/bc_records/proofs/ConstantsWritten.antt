@@ -1,14 +1,14 @@
 -- The written constants record the constants, in one block.
-use Rattle.std.proofs.Common.{◌≡◌, ℕ, ◌<◌, Bool, true, false, List, [], ◌∷◌, ◌++◌, Some, None, Option, map, length, refl, ap, sym, ◌∙◌, ⊎_elim}
-use Rattle.std.specs.Prelude.{All, flat_map, ◌==◌, if◌then◌else◌}
+use Rattle.std.proofs.Common.{◌≡◌, ℕ, ◌<◌, true, false, List, [], ◌∷◌, Some, None, Option, map, refl, ap, sym, ◌∙◌, ⊎_elim}
+use Rattle.std.specs.Prelude.{All, ◌==◌, if◌then◌else◌}
 use Rattle.std.proofs.lemmas.List.{append-nil}
 use Rattle.std.proofs.lemmas.List.Elements.{All-nil, All-cons, All-head, All-tail}
 use Rattle.ir_core.specs.declared.module.Const.{Const}
 use Rattle.ir_core.specs.declared.module.ConstValue.{ConstValue}
 use Rattle.ir_core.specs.declared.module.ConstValue.TheVariants.{Null, Undef, Int}
 use Rattle.bc_stream.specs.Blocks.{no_more}
-use Rattle.bc_records.specs.ConstantRecords.{ConstantRecord, set_type, null_constant, undef_constant, integer_constant, constant_entry, constants_of, signed_value, SetsTypeFirst, NamesType, ConstantsRecorded}
-use Rattle.bc_records.specs.Written.{constant_record, set_before, written_constants, constants_contents, signed_number}
+use Rattle.bc_records.specs.ConstantRecords.{ConstantRecord, set_type, constant_entry, constants_of, SetsTypeFirst, NamesType, ConstantsRecorded}
+use Rattle.bc_records.specs.Written.{constant_record, set_before, written_constants, constants_contents}
 use Rattle.bc_records.proofs.ListedLemmas.{entries_in-alone, block_ids-listed}
 use Rattle.bc_records.proofs.Numbers.{signed_value-signed_number, same_or_other, test_same, test_other}
 
@@ -31,7 +31,7 @@ values None ty (c ∷ cs) force =
     one_more c.ty c.value (written_constants (Some c.ty) cs) ∙ ap (λ rest. c ∷ rest) (values (Some c.ty) c.ty cs refl)
 values (Some last_type) ty (c ∷ cs) force =
     let after : constants_of c.ty (constant_record c.value ∷ written_constants (Some c.ty) cs) ≡ c ∷ cs
-      = one_more c.ty c.value (written_constants (Some c.ty) cs) ∙ ap (λ rest. c ∷ rest) (values (Some c.ty) c.ty cs refl) in
+    = one_more c.ty c.value (written_constants (Some c.ty) cs) ∙ ap (λ rest. c ∷ rest) (values (Some c.ty) c.ty cs refl) in
     ⊎_elim
     (λ same. ap (constants_of ty) (test_same last_type c.ty _ _ same) ∙ (ap (λ t. constants_of t (constant_record c.value ∷ written_constants (Some c.ty) cs)) (sym force ∙ same) ∙ after))
     (λ other. ap (constants_of ty) (test_other last_type c.ty _ _ other) ∙ after)

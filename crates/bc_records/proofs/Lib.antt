@@ -1,7 +1,6 @@
 pub mod Numbers
 pub mod ListedLemmas
 pub mod TypesWritten
-
 pub mod ConstantsWritten
 pub mod MetadataWritten
 pub mod SymbolsWritten

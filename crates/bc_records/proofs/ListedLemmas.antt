@@ -1,6 +1,6 @@
 -- What stands in a block that begins with records.
-use Rattle.std.proofs.Common.{◌≡◌, ℕ, List, [], ◌∷◌, ◌++◌, refl, ap, sym, ◌∙◌}
-use Rattle.bc_stream.specs.Blocks.{Contents, no_more, a_record, a_block}
+use Rattle.std.proofs.Common.{◌≡◌, ℕ, List, [], ◌∷◌, ◌++◌, refl, ap}
+use Rattle.bc_stream.specs.Blocks.{Contents, no_more}
 use Rattle.bc_records.specs.Entries.{Entry, entry, entries_in, block_ids, blocks_in}
 use Rattle.bc_records.specs.Written.{listed}
 

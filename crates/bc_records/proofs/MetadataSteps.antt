@@ -1,13 +1,12 @@
 -- The records of all metadata, and then those of the named.
-use Rattle.std.proofs.Common.{◌≡◌, List, [], ◌∷◌, ◌++◌, map, refl, ap, sym, ◌∙◌, append_assoc}
+use Rattle.std.proofs.Common.{◌≡◌, List, [], ◌∷◌, ◌++◌, map, refl, ap, sym, ◌∙◌}
 use Rattle.std.specs.Prelude.{flat_map}
 use Rattle.std.proofs.lemmas.List.Concat.{flat_map-append}
 use Rattle.ir_core.specs.declared.module.Meta.{Meta}
 use Rattle.ir_core.specs.declared.module.Named.{Named}
 use Rattle.bc_stream.specs.Blocks.{Contents, append}
-use Rattle.bc_records.specs.Entries.{Entry}
 use Rattle.bc_records.specs.MetadataRecords.{MetadataRecord, metadata_entries}
-use Rattle.bc_records.specs.Written.{meta_record, named_record, written_metadata, metadata_contents}
+use Rattle.bc_records.specs.Written.{meta_record, named_record, metadata_contents}
 use Rattle.bc_records.proofs.Steps.{alone, alone-append}
 
 flat_map-map : {X : Type 0} (f : X → MetadataRecord) (xs : List X) → flat_map metadata_entries (map f xs) ≡ flat_map (λ x. metadata_entries (f x)) xs

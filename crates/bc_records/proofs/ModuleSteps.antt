@@ -1,5 +1,5 @@
 -- The parts of a module, one after the other.
-use Rattle.std.proofs.Common.{◌≡◌, ℕ, ◌+◌, ◌<◌, ◌≤◌, List, [], ◌∷◌, ◌++◌, Some, None, Option, map, length, drop, get_or, refl, ap, sym, ◌∙◌, subst}
+use Rattle.std.proofs.Common.{◌≡◌, ℕ, ◌+◌, ◌<◌, ◌≤◌, List, [], ◌∷◌, ◌++◌, Some, None, Option, map, length, drop, get_or, refl, ap, sym, ◌∙◌}
 use Rattle.std.specs.Option.{option_map_or}
 use Rattle.std.proofs.lemmas.List.{drop_more, drop_all}
 use Rattle.ir_core.specs.declared.instruction.Body.{Body}
@@ -8,7 +8,7 @@ use Rattle.ir_core.specs.declared.module.Module.{Module}
 use Rattle.ir_core.specs.Values.{bodies}
 use Rattle.bc_stream.specs.Blocks.{Contents, no_more, a_block, append}
 use Rattle.bc_stream.proofs.BlockLemmas.{append-append}
-use Rattle.bc_records.specs.Written.{listed, function_entry, body_contents, bodies_contents, constants_contents, header_contents, metadata_contents, module_contents, symbols_contents, tables_contents}
+use Rattle.bc_records.specs.Written.{function_entry, body_contents, bodies_contents, constants_contents, header_contents, metadata_contents, module_contents, symbols_contents, tables_contents}
 use Rattle.bc_records.proofs.Steps.{alone, append-listed, append_none, one_step}
 
 -- the records of functions
@@ -45,8 +45,8 @@ module _ (m : Module) where
       ap (λ c. append c (bodies_contents m rest)) pushed
       ∙ (append-append old (bodies_contents m (bodies (x ∷ []))) (bodies_contents m rest)
       ∙ (ap (append old) (sym (bodies-append (bodies (x ∷ [])) rest)
-        ∙ ap (bodies_contents m) (sym (first_body x.body x rest)
-        ∙ ap bodies (sym (drop_more functions i x below ∙ ap (λ y. y ∷ drop (i + 1) functions) (sym is)))))
+      ∙ ap (bodies_contents m) (sym (first_body x.body x rest)
+      ∙ ap bodies (sym (drop_more functions i x below ∙ ap (λ y. y ∷ drop (i + 1) functions) (sym is)))))
       ∙ so_far))
 
   pub body_stop : (functions : List Function) (i : ℕ) (old whole : Contents) → length functions ≤ i →
@@ -69,9 +69,9 @@ pub tables_pushed : (m : Module) (old one two all constants metadata symbols : C
 tables_pushed m old one two all constants metadata symbols c_is d_is s_is first second third =
     three old one two all (a_block 11 constants no_more) (a_block 15 metadata no_more) (a_block 14 symbols no_more) first second third
     ∙ ap (append old)
-      (ap (λ c. a_block 11 c (a_block 15 metadata (a_block 14 symbols no_more))) c_is
-      ∙ (ap (λ d. a_block 11 (constants_contents m.consts) (a_block 15 d (a_block 14 symbols no_more))) d_is
-      ∙ ap (λ s. a_block 11 (constants_contents m.consts) (a_block 15 (metadata_contents m.metas m.named) (a_block 14 s no_more))) s_is))
+    (ap (λ c. a_block 11 c (a_block 15 metadata (a_block 14 symbols no_more))) c_is
+    ∙ (ap (λ d. a_block 11 (constants_contents m.consts) (a_block 15 d (a_block 14 symbols no_more))) d_is
+    ∙ ap (λ s. a_block 11 (constants_contents m.consts) (a_block 15 (metadata_contents m.metas m.named) (a_block 14 s no_more))) s_is))
 
 pub module_pushed : (m : Module) (header functions tables all : Contents) →
     header ≡ header_contents m no_more → functions ≡ append header (alone (map function_entry m.functions)) →

@@ -1,27 +1,26 @@
 -- The written block list records the module.
-use Rattle.std.proofs.Common.{◌≡◌, ℕ, suc, ◌<◌, List, [], ◌∷◌, ◌++◌, Some, None, Option, map, length, refl, ap, sym, ◌∙◌, subst, lit<, get_or}
+use Rattle.std.proofs.Common.{◌≡◌, ℕ, List, [], ◌∷◌, ◌++◌, Some, None, Option, map, length, refl, ap, sym, ◌∙◌, subst, lit<, get_or}
 use Rattle.std.specs.Prelude.{All, Contains, flat_map, IfSome, replicate}
 use Rattle.std.specs.Option.{option_map_or}
 use Rattle.std.proofs.lemmas.List.{append-nil}
 use Rattle.std.proofs.lemmas.List.Elements.{All-nil, All-cons, All-head, All-tail, All-append}
-use Rattle.ir_core.specs.declared.instruction.Inst.{Inst}
 use Rattle.ir_core.specs.declared.instruction.Block.{Block}
 use Rattle.ir_core.specs.declared.instruction.Body.{Body}
 use Rattle.ir_core.specs.declared.module.Function.{Function}
 use Rattle.ir_core.specs.declared.module.Module.{Module}
 use Rattle.ir_core.specs.Values.{instructions, bodies, body_values}
 use Rattle.ir_core.specs.Soundness.{IsSoundBody, IsWhole, EndsOnce}
-use Rattle.bc_stream.specs.Blocks.{Contents, no_more, a_block}
-use Rattle.bc_records.specs.Entries.{Entry, entry, entries_in, block_ids, blocks_in}
+use Rattle.bc_stream.specs.Blocks.{Contents, a_block}
+use Rattle.bc_records.specs.Entries.{entry, entries_in, block_ids, blocks_in}
 use Rattle.bc_records.specs.ConstantRecords.{ConstantsRecorded}
 use Rattle.bc_records.specs.MetadataRecords.{MetadataRecorded}
 use Rattle.bc_records.specs.SymbolRecords.{SymbolsRecorded}
 use Rattle.bc_records.specs.BodyRecords.{BodyRecorded, BodiesRecorded}
 use Rattle.bc_records.specs.ModuleRecords.{ModuleRecord, version_record, triple_record, layout_record, function_record, module_entry, versions, triples, layouts, declarations, declaration_of, prototype_of}
-use Rattle.bc_records.specs.Ranges.{FunctionInRange, BodyInRange, BlockInRange, InstInRange, ConstInRange, IsInRange}
+use Rattle.bc_records.specs.Ranges.{FunctionInRange, BodyInRange, BlockInRange, InstInRange, IsInRange}
 use Rattle.bc_records.specs.FirstList.{IsListed, IsListedInst}
 use Rattle.bc_records.specs.Records.{Recorded}
-use Rattle.bc_records.specs.Written.{listed, function_entry, body_contents, bodies_contents, module_contents, written, types_contents, constants_contents, metadata_contents, symbols_contents}
+use Rattle.bc_records.specs.Written.{function_entry, body_contents, bodies_contents, module_contents, written, types_contents, constants_contents, metadata_contents, symbols_contents}
 use Rattle.bc_records.proofs.ListedLemmas.{entries_in-listed, block_ids-listed, blocks_in-listed}
 use Rattle.bc_records.proofs.TypesWritten.{types_written}
 use Rattle.bc_records.proofs.ConstantsWritten.{constants_written}
@@ -72,9 +71,10 @@ module _ (m : Module) where
 
   bodies_recorded : (bs : List (Function × Body)) → All (λ b. BodyRecorded m b.0 (body_contents m b.0 b.1) b.1) bs → BodiesRecorded m (blocks_in 12 (bodies_contents m bs)) bs
   bodies_recorded [] all = tt
-  bodies_recorded (b ∷ bs) all =
-      (All-head (λ b. BodyRecorded m b.0 (body_contents m b.0 b.1) b.1) b bs all,
-      bodies_recorded bs (All-tail (λ b. BodyRecorded m b.0 (body_contents m b.0 b.1) b.1) b bs all))
+  bodies_recorded (b ∷ bs) all = (
+    All-head (λ b. BodyRecorded m b.0 (body_contents m b.0 b.1) b.1) b bs all,
+    bodies_recorded bs (All-tail (λ b. BodyRecorded m b.0 (body_contents m b.0 b.1) b.1) b bs all),
+  )
 
 -- the ranges of a body are those of its function
 ranges_of_bodies : (fs : List Function) → All FunctionInRange fs → All (λ b. BodyInRange b.1) (bodies fs)
@@ -121,7 +121,7 @@ recorded m whole first_list ranges = record {
   known_blocks = known m;
   records = module_records m;
   spelled = ap (λ entries. entry 1 (1 ∷ []) ∷ entry 2 m.triple ∷ entry 3 m.layout ∷ entries)
-    (entries_in-listed (map function_entry m.functions) _ ∙ (ap (λ entries. map function_entry m.functions ++ entries) (no_records m (bodies m.functions)) ∙ (append-nil _ ∙ entries_of_functions m.functions)));
+      (entries_in-listed (map function_entry m.functions) _ ∙ (ap (λ entries. map function_entry m.functions ++ entries) (no_records m (bodies m.functions)) ∙ (append-nil _ ∙ entries_of_functions m.functions)));
   version = ap (λ vs. 1 ∷ vs) (no_versions m.functions);
   triple = ap (λ ts. m.triple ∷ ts) (no_triples m.functions);
   layout = ap (λ ls. m.layout ∷ ls) (no_layouts m.functions);
@@ -131,17 +131,17 @@ recorded m whole first_list ranges = record {
   one_type_table = ap (λ bs. types_contents m.types ∷ bs) (blocks_in-listed 17 (map function_entry m.functions) _ ∙ no_others m 17 (bodies m.functions) (λ inner rest. refl));
   types = types_written m.types first_list.types ranges.types;
   constants = subst (λ bs. ConstantsRecorded (length m.types) bs m.consts)
-    (sym (blocks_in-listed 11 (map function_entry m.functions) _ ∙ ap (λ bs. constants_contents m.consts ∷ bs) (no_others m 11 (bodies m.functions) (λ inner rest. refl))))
-    (constants_written (length m.types) m.consts whole.sound.consts);
+      (sym (blocks_in-listed 11 (map function_entry m.functions) _ ∙ ap (λ bs. constants_contents m.consts ∷ bs) (no_others m 11 (bodies m.functions) (λ inner rest. refl))))
+      (constants_written (length m.types) m.consts whole.sound.consts);
   metadata = subst (λ bs. MetadataRecorded bs m.metas m.named)
-    (sym (blocks_in-listed 15 (map function_entry m.functions) _ ∙ ap (λ bs. metadata_contents m.metas m.named ∷ bs) (no_others m 15 (bodies m.functions) (λ inner rest. refl))))
-    (metadata_written m.metas m.named);
+      (sym (blocks_in-listed 15 (map function_entry m.functions) _ ∙ ap (λ bs. metadata_contents m.metas m.named ∷ bs) (no_others m 15 (bodies m.functions) (λ inner rest. refl))))
+      (metadata_written m.metas m.named);
   symbols = subst (λ bs. SymbolsRecorded (length m.functions) bs (map (λ f. f.name) m.functions))
-    (sym (blocks_in-listed 14 (map function_entry m.functions) _ ∙ ap (λ bs. symbols_contents m.functions ∷ bs) (no_others m 14 (bodies m.functions) (λ inner rest. refl))))
-    (symbols_written m.functions);
+      (sym (blocks_in-listed 14 (map function_entry m.functions) _ ∙ ap (λ bs. symbols_contents m.functions ∷ bs) (no_others m 14 (bodies m.functions) (λ inner rest. refl))))
+      (symbols_written m.functions);
   code = subst (λ bs. BodiesRecorded m bs (bodies m.functions))
-    (sym (blocks_in-listed 12 (map function_entry m.functions) _))
-    (bodies_recorded m (bodies m.functions) (all_bodies m (bodies m.functions) whole.sound.bodies_sound whole.ended first_list.code (ranges_of_bodies m.functions ranges.functions)));
+      (sym (blocks_in-listed 12 (map function_entry m.functions) _))
+      (bodies_recorded m (bodies m.functions) (all_bodies m (bodies m.functions) whole.sound.bodies_sound whole.ended first_list.code (ranges_of_bodies m.functions ranges.functions)));
   sound = whole.sound;
   in_range = ranges;
 }

@@ -1,9 +1,9 @@
 -- A loop that adds the records of one item after the other: with those of the items that are left, they are the whole.
-use Rattle.std.proofs.Common.{◌≡◌, ℕ, ◌+◌, ◌<◌, ◌≤◌, List, [], ◌∷◌, ◌++◌, Some, None, Option, map, length, drop, get_or, refl, ap, sym, ◌∙◌, subst}
+use Rattle.std.proofs.Common.{◌≡◌, ℕ, ◌+◌, ◌<◌, ◌≤◌, List, [], ◌∷◌, ◌++◌, map, length, drop, get_or, refl, ap, sym, ◌∙◌, subst}
 use Rattle.std.specs.Prelude.{flat_map, All, take}
 use Rattle.std.proofs.lemmas.List.{drop_more, drop_all, take_all, map-append}
 use Rattle.std.proofs.lemmas.List.Elements.{All-more}
-use Rattle.bc_stream.specs.Blocks.{Contents, no_more, a_record, a_block, append}
+use Rattle.bc_stream.specs.Blocks.{Contents, no_more, a_record, append}
 use Rattle.bc_stream.proofs.BlockLemmas.{append-none, append-append}
 use Rattle.bc_records.specs.Entries.{Entry, entry}
 use Rattle.bc_records.specs.Written.{listed}

@@ -1,12 +1,12 @@
 -- One name more.
-use Rattle.std.proofs.Common.{◌≡◌, ℕ, suc, ◌+◌, ◌<◌, ◌≤◌, List, [], ◌∷◌, ◌++◌, map, length, drop, get_or, refl, ap, sym, ◌∙◌}
+use Rattle.std.proofs.Common.{◌≡◌, ℕ, ◌+◌, ◌<◌, ◌≤◌, List, [], ◌∷◌, map, length, drop, get_or, ap, sym, ◌∙◌}
 use Rattle.std.proofs.Math.Numerals.{add-one}
 use Rattle.std.proofs.lemmas.List.{drop_more, drop_all}
 use Rattle.ir_core.specs.declared.module.Function.{Function}
 use Rattle.bc_stream.specs.Blocks.{Contents, append, no_more, a_record}
 use Rattle.bc_records.specs.Entries.{entry}
 use Rattle.bc_records.specs.SymbolRecords.{symbol_entry}
-use Rattle.bc_records.specs.Written.{symbols_from, symbols_contents}
+use Rattle.bc_records.specs.Written.{symbols_from}
 use Rattle.bc_records.proofs.Steps.{alone, append_none, one_step}
 
 -- the records of the functions from a place on

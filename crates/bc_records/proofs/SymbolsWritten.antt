@@ -1,6 +1,6 @@
 -- The written symbol table names the functions, in one block.
-use Rattle.std.proofs.Common.{◌≡◌, ◌≢◌, ℕ, suc, ◌+◌, ◌<◌, ◌≤◌, List, [], ◌∷◌, ◌++◌, map, length, refl, ap, sym, ◌∙◌, subst, arith, append_assoc}
-use Rattle.std.specs.Prelude.{All, flat_map, ◌==◌, if◌then◌else◌}
+use Rattle.std.proofs.Common.{◌≡◌, ◌≢◌, ℕ, suc, ◌+◌, ◌<◌, ◌≤◌, List, [], ◌∷◌, ◌++◌, map, length, refl, ap, ◌∙◌, subst, arith, append_assoc}
+use Rattle.std.specs.Prelude.{All}
 use Rattle.std.proofs.lemmas.List.{append-nil}
 use Rattle.std.proofs.lemmas.List.Elements.{All-nil, All-cons, All-head, All-tail, All-push, All-weaker}
 use Rattle.ir_core.specs.declared.module.Function.{Function}
@@ -30,12 +30,12 @@ named_from value before [] all = tt
 named_from value before (f ∷ fs) all =
     let own : SymbolRecord = symbol value f.name in
     let found : name_of (before ++ symbols_from value (f ∷ fs)) value ≡ f.name
-      = name_of-past value before (symbols_from value (f ∷ fs)) all ∙ test_same value value _ _ refl in
+    = name_of-past value before (symbols_from value (f ∷ fs)) all ∙ test_same value value _ _ refl in
     let last : value < suc value = omega arith in
     let more : NamedFrom (suc value) ((before ++ own ∷ []) ++ symbols_from (suc value) fs) (names fs)
-      = named_from (suc value) (before ++ own ∷ []) fs (All-push (IsOf (suc value)) before own (All-weaker (IsOf value) (IsOf (suc value)) (of_more value) before all) last) in
+    = named_from (suc value) (before ++ own ∷ []) fs (All-push (IsOf (suc value)) before own (All-weaker (IsOf value) (IsOf (suc value)) (of_more value) before all) last) in
     let whole : (before ++ own ∷ []) ++ symbols_from (suc value) fs ≡ before ++ symbols_from value (f ∷ fs)
-      = append_assoc before (own ∷ []) (symbols_from (suc value) fs) in
+    = append_assoc before (own ∷ []) (symbols_from (suc value) fs) in
     (found, subst (λ records. NamedFrom (suc value) records (names fs)) whole more)
 
 others_above : (value from : ℕ) (functions : List Function) → value < from → All (IsOther value) (symbols_from from functions)

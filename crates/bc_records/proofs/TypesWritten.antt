@@ -1,13 +1,12 @@
 -- The written type table records the types.
-use Rattle.std.proofs.Common.{◌≡◌, ℕ, List, [], ◌∷◌, ◌++◌, Some, None, map, length, refl, ap, sym, ◌∙◌, arith}
+use Rattle.std.proofs.Common.{◌≡◌, List, [], ◌∷◌, Some, None, map, length, refl, ap}
 use Rattle.std.specs.Prelude.{All, flat_map}
 use Rattle.std.proofs.lemmas.Bool.{false≢true}
 use Rattle.std.proofs.lemmas.List.Elements.{All-nil, All-cons, All-head, All-tail}
 use Rattle.ir_core.specs.declared.module.Ty.{Ty}
 use Rattle.ir_core.specs.declared.module.Ty.TheVariants.{Void, Label, Metadata, Int, Pointer, Array, Vector, Struct, Function}
 use Rattle.bc_stream.specs.Blocks.{no_more}
-use Rattle.bc_records.specs.Entries.{Entry, entry, IsText}
-use Rattle.bc_records.specs.TypeRecords.{TypeRecord, number_of_entries, void_type, integer_type, pointer_type, metadata_type, struct_name, struct_type, function_type, type_entry, table_of, stated_numbers, IsTypeText, TypesRecorded}
+use Rattle.bc_records.specs.TypeRecords.{number_of_entries, void_type, integer_type, pointer_type, metadata_type, struct_name, struct_type, function_type, type_entry, table_of, stated_numbers, IsTypeText, TypesRecorded}
 use Rattle.bc_records.specs.FirstList.{IsListedType}
 use Rattle.bc_records.specs.Ranges.{TypeInRange}
 use Rattle.bc_records.specs.Written.{type_records, written_types, types_contents}

@@ -1,5 +1,5 @@
 -- Records and blocks as they stand in a block, before they are read.
-use Rattle.std.specs.Prelude.{ℕ, suc, ◌+◌, ◌≢◌, ◌==◌, ◌<◌, ◌^◌, if◌then◌else◌, List, [], ◌∷◌, All}
+use Rattle.std.specs.Prelude.{ℕ, suc, ◌+◌, ◌==◌, ◌<◌, ◌^◌, if◌then◌else◌, List, [], ◌∷◌, All}
 use Rattle.bc_stream.specs.Blocks.{Contents, no_more, a_record, a_block}
 
 -- a record: its code and its operands
@@ -37,10 +37,3 @@ abbrev pub block_count : Contents → ℕ
 block_count no_more = 0
 block_count (a_record code values rest) = block_count rest
 block_count (a_block id inner rest) = suc (block_count inner + block_count rest)
-
--- Blocks and records may stand inside so many open blocks: no block 0, no more than 16 levels, and outside all
--- blocks alone.
-abbrev pub MayStand : ℕ → Contents → Type 0
-MayStand open_blocks no_more = Unit {0}
-MayStand open_blocks (a_record code values rest) = (0 < open_blocks) × MayStand open_blocks rest
-MayStand open_blocks (a_block id inner rest) = (id ≢ 0) × (open_blocks < 16) × MayStand (suc open_blocks) inner × MayStand open_blocks rest

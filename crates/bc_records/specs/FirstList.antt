@@ -1,5 +1,5 @@
 -- Modules whose records are among those that are written so far.
-use Rattle.std.specs.Prelude.{◌≡◌, List, [], ◌∷◌, All, IsSome}
+use Rattle.std.specs.Prelude.{◌≡◌, [], All, IsSome}
 use Rattle.ir_core.specs.declared.instruction.Inst.{Inst}
 use Rattle.ir_core.specs.declared.instruction.Inst.TheVariants.{Call, Ret}
 use Rattle.ir_core.specs.declared.module.Ty.{Ty}

@@ -1,5 +1,5 @@
 -- The blocks METADATA of a module, id 15 (LLVM Bitcode File Format, "METADATA_BLOCK Contents").
-use Rattle.std.specs.Prelude.{◌≡◌, ℕ, suc, zero, Option, None, Some, List, [], ◌∷◌, map, All, flat_map}
+use Rattle.std.specs.Prelude.{◌≡◌, ℕ, suc, zero, Option, None, Some, List, [], ◌∷◌, map, flat_map}
 use Rattle.ir_core.specs.declared.module.Meta.{Meta}
 use Rattle.ir_core.specs.declared.module.Meta.TheVariants.{Chars, Value, Node}
 use Rattle.ir_core.specs.declared.module.Named.{Named}

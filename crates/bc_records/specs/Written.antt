@@ -1,5 +1,5 @@
 -- The block list that is written for a module, in the order that LLVM's readers need.
-use Rattle.std.specs.Prelude.{ℕ, zero, suc, ◌+◌, ◌-◌, ◌*◌, ◌%◌, ◌^◌, ◌==◌, if◌then◌else◌, ℤ, pos, negsuc, Option, None, Some, List, [], ◌∷◌, ◌++◌, map, length, replicate, flat_map, option_and_then}
+use Rattle.std.specs.Prelude.{ℕ, suc, ◌+◌, ◌-◌, ◌*◌, ◌%◌, ◌^◌, ◌==◌, if◌then◌else◌, ℤ, pos, negsuc, Option, None, Some, List, [], ◌∷◌, ◌++◌, map, length, replicate, flat_map}
 use Rattle.std.specs.Option.{option_map_or}
 use Rattle.ir_core.specs.declared.instruction.Inst.{Inst}
 use Rattle.ir_core.specs.declared.instruction.Inst.TheVariants.{Call, Ret}
@@ -21,8 +21,8 @@ use Rattle.bc_records.specs.TypeRecords.{TypeRecord, number_of_entries, void_typ
 use Rattle.bc_records.specs.ConstantRecords.{ConstantRecord, set_type, null_constant, undef_constant, integer_constant, constant_entry}
 use Rattle.bc_records.specs.MetadataRecords.{MetadataRecord, string_metadata, value_metadata, node_metadata, named_metadata, metadata_entries}
 use Rattle.bc_records.specs.SymbolRecords.{SymbolRecord, symbol, symbol_entry}
-use Rattle.bc_records.specs.BodyRecords.{BodyRecord, declare_blocks, return_record, call_record, body_entry, first_value, next_value}
-use Rattle.bc_records.specs.ModuleRecords.{ModuleRecord, function_record, module_entry, prototype_of}
+use Rattle.bc_records.specs.BodyRecords.{BodyRecord, return_record, call_record, body_entry, first_value, next_value}
+use Rattle.bc_records.specs.ModuleRecords.{function_record, module_entry, prototype_of}
 
 -- records, and then the rest
 abbrev pub listed : List Entry → Contents → Contents

@@ -31,13 +31,21 @@ fn difference(next: u64, value: u32) -> u64
 }
 
 /// The operands of a call: no attributes, the convention, the function's type, the function and the arguments.
-fn call_operands(alloc: Global, module: &Module, next: u64, function: u32, args: &[u32]) -> Result<Values, NoMemory>
+fn call_operands(
+    alloc: Global,
+    module: &Module,
+    next: u64,
+    function: u32,
+    args: &[u32],
+) -> Result<Values, NoMemory>
     requires { next < 2 ^ 63 }
     ensures { IfOk result (λ values. values ≡ 0 ∷ 2 ^ 15 ∷ type_number «module».now function ∷ relative next function ∷ map (relative next) args.now) }
 {
     let ty = u64::from(function_type(module, function));
-    let mut values =
-        Values::from_slice(alloc, &[0, EXPLICIT_TYPE, ty, difference(next, function)])?;
+    let mut values = Values::from_slice(
+        alloc,
+        &[0, EXPLICIT_TYPE, ty, difference(next, function)],
+    )?;
     for arg in args {
         values.push(difference(next, *arg))?;
     }
@@ -45,7 +53,14 @@ fn call_operands(alloc: Global, module: &Module, next: u64, function: u32, args:
 }
 
 /// Adds the record of a call.
-fn push_call(alloc: Global, parts: &mut Parts, module: &Module, next: u64, function: u32, args: &Ids) -> Result<(), NoMemory>
+fn push_call(
+    alloc: Global,
+    parts: &mut Parts,
+    module: &Module,
+    next: u64,
+    function: u32,
+    args: &Ids,
+) -> Result<(), NoMemory>
     requires { next < 2 ^ 63 }
     ensures ok { OnOk result (parts_contents parts.new ≡ append (parts_contents parts.old) (listed (map body_entry (call_records «module».now next function args.now)) no_more)) }
     ensures range { OnOk result (All IsWord args.now) }
@@ -59,7 +74,13 @@ fn push_call(alloc: Global, parts: &mut Parts, module: &Module, next: u64, funct
 
 /// Adds the record of an instruction, where the next value has the number `next`.
 #[tactic(auto, using(crate::proofs::Steps::append_none))]
-fn push_inst(alloc: Global, parts: &mut Parts, module: &Module, next: u64, inst: &Inst) -> Result<(), NoMemory>
+fn push_inst(
+    alloc: Global,
+    parts: &mut Parts,
+    module: &Module,
+    next: u64,
+    inst: &Inst,
+) -> Result<(), NoMemory>
     requires { next < 2 ^ 63 }
     ensures ok { OnOk result (parts_contents parts.new ≡ append (parts_contents parts.old) (listed (map body_entry (inst_records «module».now next inst.now)) no_more)) }
     ensures range { OnOk result (InstInRange inst.now) }
@@ -85,7 +106,13 @@ fn push_inst(alloc: Global, parts: &mut Parts, module: &Module, next: u64, inst:
 }
 
 /// Adds the records of the instructions of a block, and says the number of the next value after them.
-fn push_insts(alloc: Global, parts: &mut Parts, module: &Module, first: u64, insts: &Insts) -> Result<u64, NoMemory>
+fn push_insts(
+    alloc: Global,
+    parts: &mut Parts,
+    module: &Module,
+    first: u64,
+    insts: &Insts,
+) -> Result<u64, NoMemory>
     requires { first < 2 ^ 62 + 2 ^ 35 }
     ensures ok { OnOk result (parts_contents parts.new ≡ append (parts_contents parts.old) (listed (map body_entry (written_code «module».now first insts.now)) no_more)) }
     ensures after { IfOk result (λ after. after ≡ value_after «module».now first insts.now) }
@@ -102,7 +129,13 @@ fn push_insts(alloc: Global, parts: &mut Parts, module: &Module, first: u64, ins
 }
 
 /// Adds the records of all instructions of a body, where the first value has the number `first`.
-fn push_blocks(alloc: Global, parts: &mut Parts, module: &Module, first: u64, blocks: &Blocks) -> Result<(), NoMemory>
+fn push_blocks(
+    alloc: Global,
+    parts: &mut Parts,
+    module: &Module,
+    first: u64,
+    blocks: &Blocks,
+) -> Result<(), NoMemory>
     requires { first < 2 ^ 34 }
     ensures ok { OnOk result (parts_contents parts.new ≡ append (parts_contents parts.old) (listed (map body_entry (written_code «module».now first (flat_map (λ k. k.insts) blocks.now))) no_more)) }
     ensures range { OnOk result (All BlockInRange blocks.now) }
@@ -119,12 +152,22 @@ fn push_blocks(alloc: Global, parts: &mut Parts, module: &Module, first: u64, bl
 ///
 /// # Errors
 /// `NoMemory` where memory is refused.
-pub fn body_parts(alloc: Global, module: &Module, function: &Function, body: &Body) -> Result<Parts, NoMemory>
+pub fn body_parts(
+    alloc: Global,
+    module: &Module,
+    function: &Function,
+    body: &Body,
+) -> Result<Parts, NoMemory>
     ensures value { IfOk result (λ parts. parts_contents parts ≡ body_contents «module».now function.now body.now) }
     ensures range { OnOk result (BodyInRange body.now) }
 {
     let mut parts = no_parts(alloc);
-    push_numbers(alloc, &mut parts, DECLAREBLOCKS, &[body.blocks.len() as u64])?;
+    push_numbers(
+        alloc,
+        &mut parts,
+        DECLAREBLOCKS,
+        &[body.blocks.len() as u64],
+    )?;
     let constants = constants_parts(alloc, &body.consts)?;
     push_block(&mut parts, CONSTANTS_BLOCK, constants)?;
     let first = first_of_body(module, function, body);

@@ -38,7 +38,12 @@ fn push_value(alloc: Global, parts: &mut Parts, value: ConstValue) -> Result<(),
 }
 
 /// Adds a record that sets a type, where it isn't the last one.
-fn push_settype(alloc: Global, parts: &mut Parts, last_type: Option<u32>, ty: u32) -> Result<(), NoMemory>
+fn push_settype(
+    alloc: Global,
+    parts: &mut Parts,
+    last_type: Option<u32>,
+    ty: u32,
+) -> Result<(), NoMemory>
     ensures { OnOk result (parts_contents parts.new ≡ append (parts_contents parts.old) (listed (map constant_entry (set_before last_type ty [])) no_more)) }
 {
     if let Some(last) = last_type {
@@ -50,7 +55,12 @@ fn push_settype(alloc: Global, parts: &mut Parts, last_type: Option<u32>, ty: u3
 }
 
 /// Adds the records of a constant.
-fn push_constant(alloc: Global, parts: &mut Parts, last_type: Option<u32>, constant: &Const) -> Result<(), NoMemory>
+fn push_constant(
+    alloc: Global,
+    parts: &mut Parts,
+    last_type: Option<u32>,
+    constant: &Const,
+) -> Result<(), NoMemory>
     ensures ok { OnOk result (parts_contents parts.new ≡ append (parts_contents parts.old) (listed (map constant_entry (set_before last_type constant.now.ty (constant_record constant.now.value ∷ []))) no_more)) }
     ensures range { OnOk result (ConstInRange constant.now) }
 {

@@ -47,7 +47,12 @@ fn push_meta(alloc: Global, parts: &mut Parts, meta: &Meta) -> Result<(), NoMemo
     match meta {
         Meta::Chars(text) => push_text(alloc, parts, METADATA_STRING, &[], text),
         Meta::Value { ty, value } => {
-            push_numbers(alloc, parts, METADATA_VALUE, &[u64::from(*ty), u64::from(*value)])
+            push_numbers(
+                alloc,
+                parts,
+                METADATA_VALUE,
+                &[u64::from(*ty), u64::from(*value)],
+            )
         }
         Meta::Node(ids) => {
             let values = part_numbers(alloc, ids)?;

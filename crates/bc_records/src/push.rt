@@ -45,7 +45,12 @@ fn with_words(alloc: Global, first: &[u64], more: &[u32]) -> Result<Values, NoMe
 ///
 /// # Errors
 /// `NoMemory` where memory is refused.
-pub fn push_numbers(alloc: Global, parts: &mut Parts, code: u32, numbers: &[u64]) -> Result<(), NoMemory>
+pub fn push_numbers(
+    alloc: Global,
+    parts: &mut Parts,
+    code: u32,
+    numbers: &[u64],
+) -> Result<(), NoMemory>
     ensures { OnOk result (parts_contents parts.new ≡ append (parts_contents parts.old) (a_record code numbers.now no_more)) }
 {
     let values = Values::from_slice(alloc, numbers)?;
@@ -57,7 +62,13 @@ pub fn push_numbers(alloc: Global, parts: &mut Parts, code: u32, numbers: &[u64]
 ///
 /// # Errors
 /// `NoMemory` where memory is refused.
-pub fn push_text(alloc: Global, parts: &mut Parts, code: u32, first: &[u64], text: &Text) -> Result<(), NoMemory>
+pub fn push_text(
+    alloc: Global,
+    parts: &mut Parts,
+    code: u32,
+    first: &[u64],
+    text: &Text,
+) -> Result<(), NoMemory>
     ensures ok { OnOk result (parts_contents parts.new ≡ append (parts_contents parts.old) (a_record code (first.now ++ text.now) no_more)) }
     ensures range { OnOk result (IsText text.now) }
 {
@@ -72,7 +83,13 @@ pub fn push_text(alloc: Global, parts: &mut Parts, code: u32, first: &[u64], tex
 ///
 /// # Errors
 /// `NoMemory` where memory is refused.
-pub fn push_words(alloc: Global, parts: &mut Parts, code: u32, first: &[u64], ids: &Ids) -> Result<(), NoMemory>
+pub fn push_words(
+    alloc: Global,
+    parts: &mut Parts,
+    code: u32,
+    first: &[u64],
+    ids: &Ids,
+) -> Result<(), NoMemory>
     ensures ok { OnOk result (parts_contents parts.new ≡ append (parts_contents parts.old) (a_record code (first.now ++ ids.now) no_more)) }
     ensures range { OnOk result (All IsWord ids.now) }
 {

@@ -23,7 +23,13 @@ pub fn symbols_parts(alloc: Global, functions: &Functions) -> Result<Parts, NoMe
     let mut parts = no_parts(alloc);
     let all = functions.as_slice();
     for (value, function) in all.iter().enumerate() {
-        push_text(alloc, &mut parts, SYMBOL_ENTRY, &[value as u64], &function.name)?;
+        push_text(
+            alloc,
+            &mut parts,
+            SYMBOL_ENTRY,
+            &[value as u64],
+            &function.name,
+        )?;
     }
     Ok(parts)
 }

@@ -38,7 +38,12 @@ fn push_type(alloc: Global, parts: &mut Parts, ty: &Ty) -> Result<(), NoMemory>
         Ty::Void => push_numbers(alloc, parts, TYPE_VOID, &[]),
         Ty::Int(width) => push_numbers(alloc, parts, TYPE_INTEGER, &[u64::from(*width)]),
         Ty::Pointer { to, space } => {
-            push_numbers(alloc, parts, TYPE_POINTER, &[u64::from(*to), u64::from(*space)])
+            push_numbers(
+                alloc,
+                parts,
+                TYPE_POINTER,
+                &[u64::from(*to), u64::from(*space)],
+            )
         }
         Ty::Metadata => push_numbers(alloc, parts, TYPE_METADATA, &[]),
         Ty::Struct { name, of } => match name {
@@ -49,7 +54,13 @@ fn push_type(alloc: Global, parts: &mut Parts, ty: &Ty) -> Result<(), NoMemory>
             }
         },
         Ty::Function { result, params } => {
-            push_words(alloc, parts, TYPE_FUNCTION, &[0, u64::from(*result)], params)
+            push_words(
+                alloc,
+                parts,
+                TYPE_FUNCTION,
+                &[0, u64::from(*result)],
+                params,
+            )
         }
         Ty::Label => Ok(()),
         Ty::Array { .. } => Ok(()),

@@ -84,7 +84,11 @@ pub fn after_inst(module: &Module, next: u64, inst: &Inst) -> u64
     requires { next < 2 ^ 63 }
     ensures { result ≡ next_value «module».now next inst.now }
 {
-    if inst_has_value(module, inst) { next + 1 } else { next }
+    if inst_has_value(module, inst) {
+        next + 1
+    } else {
+        next
+    }
 }
 
 /// The number of the type of the function that has a value number, and 0 where no function has it.

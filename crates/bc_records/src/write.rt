@@ -1,10 +1,11 @@
 //! The block MODULE, and with it the block list of a module.
 
-ghost use Rattle.std.specs.Prelude.{◌≡◌, [], ◌∷◌, ◌^◌, ◌<◌, All, IfOk, IfSome, OnOk, map};
+ghost use Rattle.std.specs.Prelude.{◌≡◌, [], ◌∷◌, ◌^◌, ◌<◌, ◌≤◌, All, IfOk, IfSome, OnOk, map};
 ghost use Rattle.ir_core.specs.Soundness.{IsWhole};
 ghost use Rattle.ir_core.specs.Values.{bodies};
-ghost use Rattle.bc_stream.specs.Blocks.{append, contents_of, no_more, parts_contents};
-ghost use Rattle.bc_records.specs.Entries.{IsText, IsWord, MayStand, block_count};
+ghost use Rattle.bc_stream.specs.Blocks.{HasNoBlockZero, append, contents_of, levels, no_more, parts_contents};
+ghost use Rattle.bc_stream.specs.Spelling.{most_levels};
+ghost use Rattle.bc_records.specs.Entries.{IsText, IsWord, block_count};
 ghost use Rattle.bc_records.specs.FirstList.{IsListed};
 ghost use Rattle.bc_records.specs.Ranges.{BodyInRange, ConstInRange, IsInRange, MetaInRange, NamedInRange, TypeInRange};
 ghost use Rattle.bc_records.specs.Records.{Recorded};
@@ -38,7 +39,12 @@ fn push_function(alloc: Global, parts: &mut Parts, function: &Function) -> Resul
         None => 1,
         Some(_) => 0,
     };
-    push_numbers(alloc, parts, FUNCTION, &[ty, 0, prototype, 0, 0, 0, 0, 0, 0, 0, 0, 0, 0, 0, 0])?;
+    push_numbers(
+        alloc,
+        parts,
+        FUNCTION,
+        &[ty, 0, prototype, 0, 0, 0, 0, 0, 0, 0, 0, 0, 0, 0, 0],
+    )?;
     Ok(())
 }
 
@@ -89,7 +95,12 @@ fn push_tables(alloc: Global, parts: &mut Parts, module: &Module) -> Result<(), 
 
 /// Adds the block of a function's body, where it has one.
 #[tactic(auto, using(crate::proofs::Steps::append_none))]
-fn push_body(alloc: Global, parts: &mut Parts, module: &Module, function: &Function) -> Result<(), NoMemory>
+fn push_body(
+    alloc: Global,
+    parts: &mut Parts,
+    module: &Module,
+    function: &Function,
+) -> Result<(), NoMemory>
     ensures ok { OnOk result (parts_contents parts.new ≡ append (parts_contents parts.old) (bodies_contents «module».now (bodies (function.now ∷ [])))) }
     ensures range { OnOk result (IfSome function.now.body BodyInRange) }
 {
@@ -138,7 +149,8 @@ pub fn to_blocks(alloc: Global, module: &Module) -> Result<BlockList, NoMemory>
     requires whole { IsWhole «module».now }
     requires listed { IsListed «module».now }
     ensures recorded { IfOk result (λ blocks. Recorded (contents_of blocks) «module».now) }
-    ensures may_stand { IfOk result (λ blocks. MayStand 0 (contents_of blocks)) }
+    ensures no_block_zero { IfOk result (λ blocks. HasNoBlockZero (contents_of blocks)) }
+    ensures nesting { IfOk result (λ blocks. levels (contents_of blocks) ≤ most_levels) }
     ensures few { IfOk result (λ blocks. block_count (contents_of blocks) < 2 ^ 32) }
 {
     let parts = module_parts(alloc, module)?;

@@ -9,12 +9,12 @@ use Rattle.bc_records.proofs.code.push_blocks.Goals as goal
 pub loop-block-preserved : goal.loop-block-preserved
 loop-block-preserved c = record {
   so_far = block_step c.args.module.now c.as_slice-all.result.now c.loop-block.block-index c.block-item.result c.loop-block.next c.in_ok-next.next
-    (parts_contents c.loop-block.parts) (parts_contents c.push_insts.new.parts)
-    (append (parts_contents c.args.parts.now) (left c.args.module.now c.args.first (flat_map (λ k. k.insts) c.as_slice-all.result.now)))
-    c.loop-block-test.true c.block-item.is c.in_ok-next.ensures.after c.in_ok-next.ensures.ok c.loop-block.invariant.so_far;
+      (parts_contents c.loop-block.parts) (parts_contents c.push_insts.new.parts)
+      (append (parts_contents c.args.parts.now) (left c.args.module.now c.args.first (flat_map (λ k. k.insts) c.as_slice-all.result.now)))
+      c.loop-block-test.true c.block-item.is c.in_ok-next.ensures.after c.in_ok-next.ensures.ok c.loop-block.invariant.so_far;
   limit = omega (arith, c.in_ok-next.ensures.limit, c.loop-block.invariant.limit);
   range = range_step BlockInRange c.as_slice-all.result.now c.loop-block.block-index c.block-item.result
-    c.loop-block-test.true c.block-item.is c.in_ok-next.ensures.range c.loop-block.invariant.range;
+      c.loop-block-test.true c.block-item.is c.in_ok-next.ensures.range c.loop-block.invariant.range;
 }
 
 pub returns-clause-ok : goal.returns-clause-ok

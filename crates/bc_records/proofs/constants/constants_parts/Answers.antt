@@ -1,4 +1,4 @@
-use Rattle.std.proofs.Common.{◌∙◌, ap, get_or}
+use Rattle.std.proofs.Common.{◌∙◌, ap}
 use Rattle.std.proofs.lemmas.List.Elements.{All-more}
 use Rattle.ir_core.specs.declared.module.Const.{Const}
 use Rattle.ir_core.specs.declared.module.ConstValue.TheVariants.{Null}
@@ -14,10 +14,10 @@ loop-constant-preserved c =
     let d : Const = record { ty = 0; value = Null } in
     record {
       so_far = constant_step c.as_slice-all.result.now c.loop-constant.constant-index d c.loop-constant.last_type
-        (parts_contents c.loop-constant.parts) (parts_contents c.push_constant.new.parts) (constants_contents c.as_slice-all.result.now)
-        c.loop-constant-test.true c.in_ok-push_constant.ensures.ok c.loop-constant.invariant.so_far;
+          (parts_contents c.loop-constant.parts) (parts_contents c.push_constant.new.parts) (constants_contents c.as_slice-all.result.now)
+          c.loop-constant-test.true c.in_ok-push_constant.ensures.ok c.loop-constant.invariant.so_far;
       range = All-more ConstInRange c.as_slice-all.result.now c.loop-constant.constant-index d
-        c.loop-constant-test.true c.loop-constant.invariant.range c.in_ok-push_constant.ensures.range;
+          c.loop-constant-test.true c.loop-constant.invariant.range c.in_ok-push_constant.ensures.range;
     }
 
 pub returns-clause-value : goal.returns-clause-value

@@ -23,10 +23,10 @@ loop-one-init c = record {
 pub loop-one-preserved : goal.loop-one-preserved
 loop-one-preserved c = record {
   so_far = step own c.as_slice-all.result.now c.loop-one.one-index c.one-item.result
-    (parts_contents c.loop-one.parts) (parts_contents c.push_named.new.parts) (metadata_contents c.args.metas.now c.as_slice-all.result.now)
-    c.loop-one-test.true c.one-item.is c.in_ok-push_named.ensures.ok c.loop-one.invariant.so_far;
+      (parts_contents c.loop-one.parts) (parts_contents c.push_named.new.parts) (metadata_contents c.args.metas.now c.as_slice-all.result.now)
+      c.loop-one-test.true c.one-item.is c.in_ok-push_named.ensures.ok c.loop-one.invariant.so_far;
   range = range_step NamedInRange c.as_slice-all.result.now c.loop-one.one-index c.one-item.result
-    c.loop-one-test.true c.one-item.is c.in_ok-push_named.ensures.range c.loop-one.invariant.range;
+      c.loop-one-test.true c.one-item.is c.in_ok-push_named.ensures.range c.loop-one.invariant.range;
 }
 
 pub returns-clause-value : goal.returns-clause-value

@@ -10,6 +10,6 @@ use Rattle.bc_records.proofs.metadata.metadata_parts.Given as goal
 abbrev pub invariant-loop-one : goal.invariant-loop-one
 invariant-loop-one l = record {
   so_far : append (parts_contents l.parts) (alone (flat_map (λ n. metadata_entries (named_record n)) (drop l.one-index l.all)))
-    ≡ metadata_contents l.metas l.all;
+      ≡ metadata_contents l.metas l.all;
   range : All NamedInRange (take l.one-index l.all);
 }

@@ -15,10 +15,10 @@ own meta = metadata_entries (meta_record meta)
 pub loop-meta-preserved : goal.loop-meta-preserved
 loop-meta-preserved c = record {
   so_far = step own c.as_slice-all.result.now c.loop-meta.meta-index c.meta-item.result
-    (parts_contents c.loop-meta.parts) (parts_contents c.push_meta.new.parts) (alone (flat_map own c.as_slice-all.result.now))
-    c.loop-meta-test.true c.meta-item.is c.in_ok-push_meta.ensures.ok c.loop-meta.invariant.so_far;
+      (parts_contents c.loop-meta.parts) (parts_contents c.push_meta.new.parts) (alone (flat_map own c.as_slice-all.result.now))
+      c.loop-meta-test.true c.meta-item.is c.in_ok-push_meta.ensures.ok c.loop-meta.invariant.so_far;
   range = range_step MetaInRange c.as_slice-all.result.now c.loop-meta.meta-index c.meta-item.result
-    c.loop-meta-test.true c.meta-item.is c.in_ok-push_meta.ensures.range c.loop-meta.invariant.range;
+      c.loop-meta-test.true c.meta-item.is c.in_ok-push_meta.ensures.range c.loop-meta.invariant.range;
 }
 
 pub returns-clause-value : goal.returns-clause-value

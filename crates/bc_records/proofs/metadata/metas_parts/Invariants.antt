@@ -10,6 +10,6 @@ use Rattle.bc_records.proofs.metadata.metas_parts.Given as goal
 abbrev pub invariant-loop-meta : goal.invariant-loop-meta
 invariant-loop-meta l = record {
   so_far : append (parts_contents l.parts) (alone (flat_map (λ m. metadata_entries (meta_record m)) (drop l.meta-index l.all)))
-    ≡ alone (flat_map (λ m. metadata_entries (meta_record m)) l.all);
+      ≡ alone (flat_map (λ m. metadata_entries (meta_record m)) l.all);
   range : All MetaInRange (take l.meta-index l.all);
 }

@@ -13,10 +13,10 @@ NameInRange f = IsText f.name
 pub loop-value-preserved : goal.loop-value-preserved
 loop-value-preserved c = record {
   so_far = symbol_step c.as_slice-all.result.now c.loop-value.value c.index-all-value.result
-    (parts_contents c.loop-value.parts) (parts_contents c.push_text.new.parts) (symbols_contents c.as_slice-all.result.now)
-    c.loop-value-test.true c.index-all-value.is c.in_ok-push_text.ensures.ok c.loop-value.invariant.so_far;
+      (parts_contents c.loop-value.parts) (parts_contents c.push_text.new.parts) (symbols_contents c.as_slice-all.result.now)
+      c.loop-value-test.true c.index-all-value.is c.in_ok-push_text.ensures.ok c.loop-value.invariant.so_far;
   range = range_step NameInRange c.as_slice-all.result.now c.loop-value.value c.index-all-value.result
-    c.loop-value-test.true c.index-all-value.is c.in_ok-push_text.ensures.range c.loop-value.invariant.range;
+      c.loop-value-test.true c.index-all-value.is c.in_ok-push_text.ensures.range c.loop-value.invariant.range;
 }
 
 pub returns-clause-value : goal.returns-clause-value

@@ -15,11 +15,11 @@ OwnInRange f = IfSome f.body BodyInRange
 pub loop-function-preserved : goal.loop-function-preserved
 loop-function-preserved c = record {
   so_far = body_step c.args.module.now c.as_slice-all.result.now c.loop-function.function-index c.function-item.result
-    (parts_contents c.loop-function.parts) (parts_contents c.push_body.new.parts)
-    (append (parts_contents c.args.parts.now) (bodies_contents c.args.module.now (bodies c.as_slice-all.result.now)))
-    c.loop-function-test.true c.function-item.is c.in_ok-push_body.ensures.ok c.loop-function.invariant.so_far;
+      (parts_contents c.loop-function.parts) (parts_contents c.push_body.new.parts)
+      (append (parts_contents c.args.parts.now) (bodies_contents c.args.module.now (bodies c.as_slice-all.result.now)))
+      c.loop-function-test.true c.function-item.is c.in_ok-push_body.ensures.ok c.loop-function.invariant.so_far;
   range = range_step OwnInRange c.as_slice-all.result.now c.loop-function.function-index c.function-item.result
-    c.loop-function-test.true c.function-item.is c.in_ok-push_body.ensures.range c.loop-function.invariant.range;
+      c.loop-function-test.true c.function-item.is c.in_ok-push_body.ensures.range c.loop-function.invariant.range;
 }
 
 pub returns-clause-ok : goal.returns-clause-ok

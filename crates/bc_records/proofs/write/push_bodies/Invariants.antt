@@ -9,6 +9,6 @@ use Rattle.bc_records.proofs.write.push_bodies.Given as goal
 abbrev pub invariant-loop-function : goal.invariant-loop-function
 invariant-loop-function l = record {
   so_far : append (parts_contents l.parts) (bodies_contents l.module (bodies (drop l.function-index l.all)))
-    ≡ append (parts_contents l.initial.parts) (bodies_contents l.module (bodies l.all));
+      ≡ append (parts_contents l.initial.parts) (bodies_contents l.module (bodies l.all));
   range : All (λ f. IfSome f.body BodyInRange) (take l.function-index l.all);
 }

@@ -13,11 +13,11 @@ TypeNumberInRange f = IsWord f.ty
 pub loop-function-preserved : goal.loop-function-preserved
 loop-function-preserved c = record {
   so_far = function_step c.as_slice-all.result.now c.loop-function.function-index c.function-item.result
-    (parts_contents c.loop-function.parts) (parts_contents c.push_function.new.parts)
-    (append (parts_contents c.args.parts.now) (alone (map function_entry c.as_slice-all.result.now)))
-    c.loop-function-test.true c.function-item.is c.in_ok-push_function.ensures.ok c.loop-function.invariant.so_far;
+      (parts_contents c.loop-function.parts) (parts_contents c.push_function.new.parts)
+      (append (parts_contents c.args.parts.now) (alone (map function_entry c.as_slice-all.result.now)))
+      c.loop-function-test.true c.function-item.is c.in_ok-push_function.ensures.ok c.loop-function.invariant.so_far;
   range = range_step TypeNumberInRange c.as_slice-all.result.now c.loop-function.function-index c.function-item.result
-    c.loop-function-test.true c.function-item.is c.in_ok-push_function.ensures.range c.loop-function.invariant.range;
+      c.loop-function-test.true c.function-item.is c.in_ok-push_function.ensures.range c.loop-function.invariant.range;
 }
 
 pub returns-clause-ok : goal.returns-clause-ok

@@ -9,6 +9,6 @@ use Rattle.bc_records.proofs.write.push_functions.Given as goal
 abbrev pub invariant-loop-function : goal.invariant-loop-function
 invariant-loop-function l = record {
   so_far : append (parts_contents l.parts) (alone (map function_entry (drop l.function-index l.all)))
-    ≡ append (parts_contents l.initial.parts) (alone (map function_entry l.all));
+      ≡ append (parts_contents l.initial.parts) (alone (map function_entry l.all));
   range : All (λ f. IsWord f.ty) (take l.function-index l.all);
 }

@@ -1,7 +1,8 @@
 -- The equations of `parts_contents` and `contents_of`, one for each form, and what a part more at the end gives.
-use Rattle.std.proofs.Common.{◌≡◌, ℕ, ◌+◌, ◌<◌, List, [], ◌∷◌, ◌++◌, length, take, get_or, refl, sym, ap, subst, ◌∙◌}
+use Rattle.std.proofs.Common.{suc, ◌≡◌, ℕ, ◌+◌, ◌<◌, ◌≤◌, List, [], ◌∷◌, ◌++◌, length, take, get_or, refl, sym, ap, subst, ◌∙◌, arith}
 use Rattle.std.proofs.lemmas.List.{take_more}
-use Rattle.bc_stream.specs.Blocks.{Contents, no_more, a_record, a_block, append, part_step, block_step, before_part, before_block, parts_contents, contents_of}
+use Rattle.std.proofs.Math.Nat.{max-le, le-max_left, le-max_right}
+use Rattle.bc_stream.specs.Blocks.{Contents, no_more, a_record, a_block, append, levels, HasNoBlockZero, part_step, block_step, before_part, before_block, parts_contents, contents_of}
 use Rattle.bc_stream.specs.declared.block.Entry as entry_type
 use Rattle.bc_stream.specs.declared.block.Part.{Part, Part-F, out-Part, roll-Part, roll-out-Part, fold-roll-Part}
 use Rattle.bc_stream.specs.declared.block.Part.TheVariants.{Block, Entry, rolls-Block, rolls-Entry}
@@ -129,3 +130,17 @@ pub entry_more : (parts : List Part) (i : ℕ) (part : Part) (entry : entry_type
 entry_more parts i part entry within is form =
     parts_contents-more parts i part within is
     ∙ ap (append (parts_contents (take i parts))) (ap (λ p. before_part p no_more) form ∙ before_part-Entry entry no_more)
+
+-- What `write_blocks` requires, of one list after another.
+pub levels-append : (a b : Contents) (most : ℕ) → levels a ≤ most → levels b ≤ most → levels (append a b) ≤ most
+levels-append no_more b most h g = g
+levels-append (a_record code values rest) b most h g = levels-append rest b most h g
+levels-append (a_block id inner rest) b most h g =
+    let first : suc (levels inner) ≤ most = omega (arith, le-max_left (suc (levels inner)) (levels rest)) in
+    let after : levels rest ≤ most = omega (arith, le-max_right (suc (levels inner)) (levels rest)) in
+    max-le first (levels-append rest b most after g)
+
+pub no_block_zero-append : (a b : Contents) → HasNoBlockZero a → HasNoBlockZero b → HasNoBlockZero (append a b)
+no_block_zero-append no_more b h g = g
+no_block_zero-append (a_record code values rest) b h g = no_block_zero-append rest b h g
+no_block_zero-append (a_block id inner rest) b h g = (h.0, h.1, no_block_zero-append rest b h.2 g)

@@ -1,8 +1,8 @@
 -- The module of a kernel of literal stores, table by table (DXIL.rst, "Metadata", "Resources and bindings"
 -- and "Operations"). With a buffer the kernel makes the buffer's handle and then stores the words one by
 -- one. Without one it ends at once.
-use Rattle.std.specs.Prelude.{◌≡◌, ℕ, ◌+◌, ◌-◌, ◌^◌, List, [], ◌∷◌, ◌++◌, ⊤, map, length, nat_lt, if◌then◌else◌, nat_eq, codes, slice_get, slice_index, ℤ, pos, negsuc}
-use Rattle.std.specs.List.{list_any}
+use Rattle.std.specs.Prelude.{◌≡◌, ℕ, ◌+◌, ◌-◌, ◌^◌, ◌<◌, List, [], ◌∷◌, ◌++◌, ⊤, map, length, nat_lt, if◌then◌else◌, nat_eq, codes, slice_get, slice_index, ℤ, pos, negsuc}
+use Rattle.std.specs.List.{list_any, All}
 use Rattle.std.specs.declared.option.Option.{Option}
 use Rattle.std.specs.declared.option.Option.TheVariants.{None, Some}
 use Rattle.ir_core.specs.declared.instruction.Inst.{Inst}
@@ -175,6 +175,10 @@ unfoldable pub emitted_module : Option (List ℕ) → (threads : List ℕ) (word
 emitted_module buffer threads words pairs =
     record { triple = dxil_triple; layout = dxil_layout; types = emitted_types buffer; globals = []; functions = emitted_functions buffer (emitted_body buffer words pairs); consts = emitted_constants buffer threads; metas = emitted_metas buffer; named = emitted_named buffer }
 
+-- a number of 32 bits
+abbrev pub IsWord : ℕ → Type 0
+IsWord n = n < 2 ^ 32
+
 -- a place in the words for a number: the words with it, which stay as they are where it is among them
 abbrev pub with_word : List ℕ → ℕ → List ℕ
 with_word words word = if list_any (nat_eq word) words then words else words ++ word ∷ []
@@ -200,5 +204,6 @@ pub record IsEmitted (buffer : Option (List ℕ)) (threads : List ℕ) (stores :
   pub words : List ℕ
   pub pairs : List (ℕ × ℕ)
   pub distinct : words ≡ words_from [] stores
+  pub fit : All IsWord words
   pub picks : Picks words pairs stores
   pub same : m ≡ emitted_module buffer threads words pairs

@@ -1,8 +1,8 @@
 //! The distinct numbers of the stores, with the place of each.
 
-ghost use Rattle.std.specs.Prelude.{◌≡◌, ℕ, ◌<◌, ◌^◌, ◌++◌, List, [], slice_get, IfOk, OnOk, length, nat_eq};
+ghost use Rattle.std.specs.Prelude.{All, ◌≡◌, ℕ, ◌<◌, ◌^◌, ◌++◌, List, [], slice_get, IfOk, OnOk, length, nat_eq};
 ghost use Rattle.std.specs.HashMap.{get};
-ghost use Rattle.dxil_driver.specs.Emitted.{with_word, words_from, Picks};
+ghost use Rattle.dxil_driver.specs.Emitted.{IsWord, with_word, words_from, Picks};
 ghost use Rattle.dxil_driver.specs.Places.{Knows};
 
 use crate::stores::LiteralStore;
@@ -24,6 +24,7 @@ impl WordPool {
         ensures knows { OnOk result (Knows self.new.places self.new.words) }
         ensures words { OnOk result (self.new.words ≡ with_word self.old.words word) }
         ensures place { IfOk result (λ place. slice_get self.new.words place ≡ Some word) }
+        ensures fit { OnOk result (All IsWord self.old.words → All IsWord self.new.words) }
     {
         if let Some(place) = self.places.get(&word) {
             return Ok(*place);
@@ -41,6 +42,7 @@ pub type Pairs = Sequence<(u32, u32)>;
 /// The distinct numbers of the stores in order of first use, and the places of each store's.
 pub fn pool_stores(alloc: Global, stores: &[LiteralStore]) -> Result<(Words, Pairs), NoMemory>
     ensures words { IfOk result (λ pool. pool.0 ≡ words_from [] stores.now) }
+    ensures fit { IfOk result (λ pool. All IsWord pool.0) }
     ensures pairs { IfOk result (λ pool. Picks pool.0 pool.1 stores.now) }
 {
     let mut pool = WordPool {

@@ -1,4 +1,6 @@
 pub mod Assembled
+pub mod Containers
+pub mod EmittedListed
 pub mod EmittedMetadata
 pub mod EmittedWhole
 pub mod OneWord

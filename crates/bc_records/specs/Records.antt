@@ -35,3 +35,7 @@ pub record Recorded (blocks : Contents) (m : Module) : Type 0 where
   pub code : BodiesRecorded m (blocks_in 12 inner) (bodies m.functions)
   pub sound : IsSound m
   pub in_range : IsInRange m
+
+-- A block list records at most one module.
+abbrev pub OneModule : Type 0
+OneModule = (blocks : Contents) (m n : Module) → Recorded blocks m → Recorded blocks n → m ≡ n

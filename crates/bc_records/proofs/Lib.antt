@@ -14,3 +14,7 @@ pub mod ValueLemmas
 pub mod CodeSteps
 pub mod ModuleSteps
 pub mod WrittenBlocks
+pub mod Back
+pub mod TablesOnce
+pub mod BodiesOnce
+pub mod OneModule

@@ -8,6 +8,7 @@ use Rattle.ir_core.specs.declared.module.Module.{Module}
 use Rattle.ir_core.specs.Values.{module_values, parameters, instructions, has_value, function_at}
 use Rattle.ir_core.specs.Soundness.{ends_block}
 use Rattle.bc_stream.specs.Blocks.{Contents}
+use Rattle.bc_records.specs.Codes.{constants_block, symbols_block, metadata_block}
 use Rattle.bc_records.specs.Entries.{Entry, entry, entries_in, block_ids, blocks_in, IsWord}
 use Rattle.bc_records.specs.ConstantRecords.{ConstantsRecorded}
 
@@ -85,8 +86,8 @@ filled_blocks (inst ∷ insts) = if ends_block inst then (inst ∷ []) ∷ fille
 pub record BodyRecorded (m : Module) (f : Function) (block : Contents) (body : Body) : Type 0 where
   pub records : List BodyRecord
   pub spelled : entries_in block ≡ map body_entry records
-  pub known_blocks : All (Contains (11 ∷ 14 ∷ 15 ∷ [])) (block_ids block)
-  pub constants : ConstantsRecorded (length m.types) (blocks_in 11 block) body.consts
+  pub known_blocks : All (Contains (constants_block ∷ symbols_block ∷ metadata_block ∷ [])) (block_ids block)
+  pub constants : ConstantsRecorded (length m.types) (blocks_in constants_block block) body.consts
   pub number : declared_blocks records ≡ length body.blocks ∷ []
   pub code : InstructionsRecorded m (first_value m f body) (instruction_records records) (instructions body)
   pub empty : ℕ

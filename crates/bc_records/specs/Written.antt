@@ -16,6 +16,7 @@ use Rattle.ir_core.specs.declared.module.Function.{Function}
 use Rattle.ir_core.specs.declared.module.Module.{Module}
 use Rattle.ir_core.specs.Values.{instructions, function_at, bodies}
 use Rattle.bc_stream.specs.Blocks.{Contents, no_more, a_record, a_block}
+use Rattle.bc_records.specs.Codes.{module_block, constants_block, function_block, symbols_block, metadata_block, types_block}
 use Rattle.bc_records.specs.Entries.{Entry, entry}
 use Rattle.bc_records.specs.TypeRecords.{TypeRecord, number_of_entries, void_type, integer_type, pointer_type, metadata_type, struct_name, struct_type, function_type, type_entry}
 use Rattle.bc_records.specs.ConstantRecords.{ConstantRecord, set_type, null_constant, undef_constant, integer_constant, constant_entry}
@@ -130,7 +131,7 @@ value_after m next (inst ∷ insts) = value_after m (next_value m next inst) ins
 abbrev pub body_contents : Module → Function → Body → Contents
 body_contents m f body =
     a_record 1 (length body.blocks ∷ [])
-    (a_block 11 (constants_contents body.consts)
+    (a_block constants_block (constants_contents body.consts)
     (listed (map body_entry (written_code m (first_value m f body) (instructions body))) no_more))
 
 -- the module
@@ -140,21 +141,21 @@ function_entry f = module_entry (function_record f.ty 0 (prototype_of f.body) 0 
 
 abbrev pub bodies_contents : Module → List (Function × Body) → Contents
 bodies_contents m [] = no_more
-bodies_contents m (first ∷ rest) = a_block 12 (body_contents m first.0 first.1) (bodies_contents m rest)
+bodies_contents m (first ∷ rest) = a_block function_block (body_contents m first.0 first.1) (bodies_contents m rest)
 
 -- the version, the type table, the triple and the data layout, and then the rest
 abbrev pub header_contents : Module → Contents → Contents
 header_contents m rest =
-    a_record 1 (1 ∷ []) (a_block 17 (types_contents m.types) (a_record 2 m.triple (a_record 3 m.layout rest)))
+    a_record 1 (1 ∷ []) (a_block types_block (types_contents m.types) (a_record 2 m.triple (a_record 3 m.layout rest)))
 
 -- the module's constants, its metadata and its names, and then the rest
 abbrev pub tables_contents : Module → Contents → Contents
 tables_contents m rest =
-    a_block 11 (constants_contents m.consts) (a_block 15 (metadata_contents m.metas m.named) (a_block 14 (symbols_contents m.functions) rest))
+    a_block constants_block (constants_contents m.consts) (a_block metadata_block (metadata_contents m.metas m.named) (a_block symbols_block (symbols_contents m.functions) rest))
 
 abbrev pub module_contents : Module → Contents
 module_contents m =
     header_contents m (listed (map function_entry m.functions) (tables_contents m (bodies_contents m (bodies m.functions))))
 
 abbrev pub written : Module → Contents
-written m = a_block 8 (module_contents m) no_more
+written m = a_block module_block (module_contents m) no_more

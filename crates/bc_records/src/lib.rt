@@ -4,6 +4,7 @@
 mod code;
 mod codes;
 mod constants;
+mod laws;
 mod metadata;
 mod push;
 mod symbols;
@@ -11,4 +12,5 @@ mod types;
 mod values;
 mod write;
 
+pub use laws::one_module;
 pub use write::to_blocks;

@@ -1,4 +1,5 @@
 pub mod Assembled
+pub mod EmittedFacts
 pub mod EmittedMetadata
 pub mod EmittedWhole
 pub mod Pushes

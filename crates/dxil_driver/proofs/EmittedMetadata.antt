@@ -1,16 +1,16 @@
 -- The metadata of an emitted module is that of its kernel.
-use Rattle.std.proofs.Common.{◌≡◌, ℕ, ◌+◌, ◌<◌, ◌^◌, true, false, Bool, length, map, List, [], ◌∷◌, ◌++◌, get_or, Option, Some, None, refl, sym, ap, ◌∙◌, subst, arith, lit<}
+use Rattle.std.proofs.Common.{◌≡◌, ℕ, ◌+◌, ◌<◌, ◌^◌, false, length, map, List, [], ◌∷◌, ◌++◌, Option, Some, None, refl, subst, lit<}
 use Rattle.std.specs.Prelude.{codes, slice_index}
 use Rattle.std.specs.List.{All, Contains}
 use Rattle.std.proofs.lemmas.List.Elements.{All-from_recursion}
 use Rattle.lane_core.specs.Lane.{Coordinates}
 use Rattle.ir_core.specs.declared.instruction.Inst.TheVariants.{Ret}
 use Rattle.ir_core.specs.declared.module.Module.{Module}
-use Rattle.ir_core.specs.Values.{Value, function_at, integer_at, body_values, instructions, low_bits}
+use Rattle.ir_core.specs.Values.{Value, function_at, integer_at, body_values, low_bits}
 use Rattle.ir_core.specs.Waves.{any_wave, uses_waves}
-use Rattle.ir_core.specs.MetadataTree.{Tree, named_trees}
+use Rattle.ir_core.specs.MetadataTree.{named_trees}
 use Rattle.ir_core.specs.Metadata.{HasMetadata, IsEntryPoint, entry_node, resources_part, properties_node, shader_flags, metadata_names}
-use Rattle.dxil_driver.specs.Emitted.{word_constant, signed_word, buffer_store, emitted_body, main_function, emitted_named, emitted_module}
+use Rattle.dxil_driver.specs.Emitted.{signed_word, buffer_store, emitted_body, main_function, emitted_named, emitted_module}
 use Rattle.dxil_driver.specs.KernelMetadata.{kernel_resources, kernel_threads}
 use Rattle.dxil_driver.proofs.StoresLane.{word_kept}
 

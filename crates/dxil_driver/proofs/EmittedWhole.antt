@@ -1,20 +1,20 @@
 -- The module of a kernel of literal stores is whole.
-use Rattle.std.proofs.Common.{◌≡◌, ℕ, suc, zero, ◌+◌, ◌-◌, ◌<◌, ◌≤◌, ◌^◌, true, false, nat_lt, length, map, List, [], ◌∷◌, ◌++◌, Option, Some, None, IsSome, refl, sym, ap, ◌∙◌, subst, arith, lit<}
+use Rattle.std.proofs.Common.{◌≡◌, ℕ, ◌+◌, ◌<◌, true, false, nat_lt, length, map, List, [], ◌∷◌, ◌++◌, Option, Some, None, IsSome, refl, sym, ap, ◌∙◌, subst, arith, lit<}
 use Rattle.std.proofs.lemmas.Bool.{ltb-true}
 use Rattle.std.proofs.lemmas.List.{length-map, length-append}
 use Rattle.std.proofs.lemmas.List.Elements.{All-from_recursion, All-nil, All-cons, All-append, All-map, All-weaker}
 use Rattle.std.proofs.lemmas.Option.{slice_get_within}
 use Rattle.std.specs.List.{All, list_all, filter}
 use Rattle.ir_core.specs.declared.instruction.Inst.{Inst}
-use Rattle.ir_core.specs.declared.instruction.Inst.TheVariants.{Call, Ret}
+use Rattle.ir_core.specs.declared.instruction.Inst.TheVariants.{Ret}
 use Rattle.ir_core.specs.declared.instruction.Body.{Body}
 use Rattle.ir_core.specs.declared.module.Const.{Const}
 use Rattle.ir_core.specs.declared.module.Function.{Function}
 use Rattle.ir_core.specs.declared.module.Module.{Module}
-use Rattle.ir_core.specs.Values.{Value, constant_value, instruction_value, call_result, has_value, instructions, module_values, body_values, bodies, signature}
-use Rattle.ir_core.specs.Soundness.{Names, IsAlignment, IsSoundType, IsSoundMeta, IsSoundInst, IsSoundBody, IsSound, IsWhole, EachHasType, ends_block, EndsOnce}
+use Rattle.ir_core.specs.Values.{Value, constant_value, instruction_value, call_result, has_value, instructions, module_values, body_values, signature}
+use Rattle.ir_core.specs.Soundness.{Names, IsAlignment, IsSoundInst, IsSoundBody, IsSound, IsWhole, EachHasType, ends_block, EndsOnce}
 use Rattle.ir_core.proofs.SoundModules.{all_by_test, names_by_test, types_by_test, metas_by_test, HasOwnType, own_types}
-use Rattle.dxil_driver.specs.Emitted.{emitted_types, emitted_constants, word_constant, opcode_constants, body_constants, create_handle, buffer_store, emitted_instructions, emitted_body, main_function, emitted_functions, emitted_metas, emitted_named, emitted_module, Picks}
+use Rattle.dxil_driver.specs.Emitted.{emitted_types, emitted_constants, word_constant, opcode_constants, body_constants, create_handle, buffer_store, emitted_body, main_function, emitted_functions, emitted_metas, emitted_named, emitted_module, Picks}
 use Rattle.dxil_driver.specs.declared.stores.LiteralStore.{LiteralStore}
 use Rattle.dxil_driver.specs.Places.{IsWithin}
 

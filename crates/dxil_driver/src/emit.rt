@@ -6,11 +6,18 @@ mod metadata;
 mod types;
 mod words;
 
-ghost use Rattle.std.specs.Prelude.{IfOk};
+ghost use Rattle.std.specs.Prelude.{◌≡◌, [], IfOk, codes, false};
+ghost use Rattle.lane_core.specs.SameLane.{SameLane};
+ghost use Rattle.ir_core.specs.Metadata.{HasMetadata};
+ghost use Rattle.ir_core.specs.ModuleLane.{module_lane};
+ghost use Rattle.ir_core.specs.Soundness.{IsWhole};
+ghost use Rattle.ir_core.specs.Waves.{uses_waves};
 ghost use Rattle.dxil_driver.specs.Emitted.{IsEmitted};
+ghost use Rattle.dxil_driver.specs.KernelMetadata.{kernel_resources, kernel_threads};
+ghost use Rattle.dxil_driver.specs.LiteralLane.{literal_stores};
 
-use crate::stores::FirstForm;
-use base_core::{NoMemory, Sequence};
+use crate::stores::{FirstForm, LiteralStore};
+use base_core::{NoMemory, Sequence, Text};
 use ir_core::Module;
 use std::alloc::Global;
 
@@ -21,23 +28,43 @@ const TRIPLE: [u8; 10] = *b"dxil-ms-dx";
 const LAYOUT: [u8; 79] =
     *b"e-m:e-p:32:32-i1:32-i8:32-i16:32-i32:32-i64:64-f16:32-f32:32-f64:64-n8:16:32:64";
 
+/// The module of a kernel with this buffer, these threads and these stores.
+fn emit_module(
+    alloc: Global,
+    buffer: &Option<Text>,
+    threads: &[u32; 3],
+    stores: &[LiteralStore],
+) -> Result<Module, NoMemory>
+    ensures emitted { IfOk result (λ m. IsEmitted buffer.now threads.now stores.now m) }
+    ensures metadata { IfOk result (λ m. HasMetadata m (kernel_resources buffer.now) (kernel_threads threads.now) (codes "main")) }
+{
+    let (words, pairs) = words::pool_stores(alloc, stores)?;
+    let body = body::emit_body(alloc, buffer, words.as_slice(), pairs.as_slice())?;
+    Ok(Module {
+        triple: Sequence::from_slice(alloc, &TRIPLE)?,
+        layout: Sequence::from_slice(alloc, &LAYOUT)?,
+        types: types::emit_types(alloc, buffer)?,
+        globals: Sequence::new(alloc),
+        functions: body::emit_functions(alloc, buffer, body)?,
+        consts: constants::emit_constants(alloc, buffer, threads)?,
+        metas: metadata::emit_metas(alloc, buffer)?,
+        named: metadata::emit_named(alloc, buffer)?,
+    })
+}
+
 /// The module of a kernel of literal stores.
+///
+/// It is whole, has the metadata of the kernel and no wave operation, and each of its lanes asks the
+/// stores in order and ends, where stores are there only with a buffer.
 ///
 /// # Errors
 /// `NoMemory` where memory is refused.
 pub fn emit(alloc: Global, form: &FirstForm) -> Result<Module, NoMemory>
-    ensures { IfOk result (λ m. IsEmitted form.now.buffer form.now.threads form.now.stores m) }
+    ensures emitted { IfOk result (λ m. IsEmitted form.now.buffer form.now.threads form.now.stores m) }
+    ensures whole { IfOk result IsWhole }
+    ensures metadata { IfOk result (λ m. HasMetadata m (kernel_resources form.now.buffer) (kernel_threads form.now.threads) (codes "main")) }
+    ensures waves { IfOk result (λ m. uses_waves m ≡ false) }
+    ensures lane { IfOk result (λ m. (form.now.buffer ≡ None → form.now.stores ≡ []) → SameLane (literal_stores form.now.stores) (module_lane m)) }
 {
-    let (words, pairs) = words::pool_stores(alloc, form.stores.as_slice())?;
-    let body = body::emit_body(alloc, &form.buffer, words.as_slice(), pairs.as_slice())?;
-    Ok(Module {
-        triple: Sequence::from_slice(alloc, &TRIPLE)?,
-        layout: Sequence::from_slice(alloc, &LAYOUT)?,
-        types: types::emit_types(alloc, &form.buffer)?,
-        globals: Sequence::new(alloc),
-        functions: body::emit_functions(alloc, &form.buffer, body)?,
-        consts: constants::emit_constants(alloc, &form.buffer, &form.threads)?,
-        metas: metadata::emit_metas(alloc, &form.buffer)?,
-        named: metadata::emit_named(alloc, &form.buffer)?,
-    })
+    emit_module(alloc, &form.buffer, &form.threads, form.stores.as_slice())
 }

@@ -1,6 +1,6 @@
 -- The container of a kernel, from what each layer promises.
-use Rattle.std.proofs.Common.{◌≡◌, ℕ, ◌^◌, ◌<◌, ◌≤◌, List, length, refl, sym, ◌∙◌, ap, subst, arith, false, Bool}
-use Rattle.std.specs.Prelude.{Result, Ok, Err, IfOk}
+use Rattle.std.proofs.Common.{◌≡◌, ℕ, ◌^◌, ◌<◌, ◌≤◌, List, length, refl, sym, ◌∙◌, ap, subst, arith, false, Bool, []}
+use Rattle.std.specs.Prelude.{Result, Ok, Err, IfOk, Option, None, Some}
 use Rattle.ir_core.specs.declared.module.Module.{Module}
 use Rattle.ir_core.specs.Waves.{uses_waves}
 use Rattle.bc_stream.specs.Blocks.{Contents}
@@ -9,6 +9,8 @@ use Rattle.bc_records.specs.Records.{Recorded, OneModule}
 use Rattle.dx_container.specs.Container.{Contained, written_form}
 use Rattle.dx_container.specs.Laws.{AtMostOneContent, WrittenIsContained}
 use Rattle.dxil_driver.specs.declared.stores.FirstForm.{FirstForm}
+use Rattle.dxil_driver.specs.declared.stores.LiteralStore.{LiteralStore}
+use Rattle.dxil_driver.specs.FirstForm.{HasBuffer}
 use Rattle.dxil_driver.specs.Compiled.{Spells, IsContainerOf}
 use Rattle.dxil_driver.specs.Kernel.{IsKernelOf, RecordsKernel, SpellsKernel}
 
@@ -42,3 +44,10 @@ written_container form bitcode contents written lists modules small (blocks, spe
 -- blocks that record the module of a kernel
 pub RecordsKernel-from : (form : FirstForm) (m : Module) (view : Contents) → IsKernelOf form m → Recorded view m → RecordsKernel form view
 RecordsKernel-from form m view kernel recorded = (m, kernel, recorded)
+
+-- without a buffer there are no stores
+pub no_stores : (buffer : Option (List ℕ)) (stores : List LiteralStore) → HasBuffer buffer stores → buffer ≡ None → stores ≡ []
+no_stores None stores h e = h
+no_stores (Some name) stores h e = absurd (some_is_none e) where
+  some_is_none : Some name ≡ None → ⊥
+  some_is_none e = cc

@@ -1,7 +1,7 @@
 pub mod Assembled
 pub mod Containers
-pub mod EmittedListed
 pub mod EmittedFacts
+pub mod EmittedListed
 pub mod EmittedMetadata
 pub mod EmittedWhole
 pub mod OneWord

@@ -7,7 +7,7 @@ ghost use Rattle.bc_stream.specs.Blocks.{HasNoBlockZero, contents_of, levels};
 ghost use Rattle.bc_stream.specs.Spelling.{most_levels};
 
 ghost use Rattle.dxil_driver.specs.Compiled.{IsContainerOf};
-ghost use Rattle.dxil_driver.specs.FirstForm.{HasBuffer, IsGroupSize};
+ghost use Rattle.dxil_driver.specs.FirstForm.{HasBuffer};
 ghost use Rattle.dxil_driver.specs.Kernel.{RecordsKernel, SpellsKernel};
 
 use crate::emit::emit;
@@ -23,8 +23,7 @@ const MINOR_VERSION: u8 = 0;
 
 /// The blocks and records of a kernel's module.
 fn kernel_blocks(alloc: Global, form: &FirstForm) -> Result<BlockList, NoMemory>
-    requires buffer { HasBuffer form.now.buffer form.now.stores }
-    requires threads { IsGroupSize form.now.threads }
+    requires { HasBuffer form.now.buffer form.now.stores }
     ensures records { IfOk result (λ blocks. RecordsKernel form.now (contents_of blocks)) }
     ensures no_block_zero { IfOk result (λ blocks. HasNoBlockZero (contents_of blocks)) }
     ensures nesting { IfOk result (λ blocks. levels (contents_of blocks) ≤ most_levels) }
@@ -35,8 +34,7 @@ fn kernel_blocks(alloc: Global, form: &FirstForm) -> Result<BlockList, NoMemory>
 
 /// The bitcode of a kernel's module.
 fn kernel_bitcode(alloc: Global, form: &FirstForm) -> Result<Bytes, NoMemory>
-    requires buffer { HasBuffer form.now.buffer form.now.stores }
-    requires threads { IsGroupSize form.now.threads }
+    requires { HasBuffer form.now.buffer form.now.stores }
     ensures spells { IfOk result (λ bitcode. SpellsKernel form.now bitcode) }
     ensures words { IfOk result (λ bitcode. length bitcode % 4 ≡ 0) }
 {
@@ -49,13 +47,13 @@ fn kernel_bitcode(alloc: Global, form: &FirstForm) -> Result<Bytes, NoMemory>
 /// # Errors
 /// `NoMemory` where memory is refused.
 pub fn kernel_container(alloc: Global, form: &FirstForm) -> Result<Bytes, NoMemory>
-    requires buffer { HasBuffer form.now.buffer form.now.stores }
-    requires threads { IsGroupSize form.now.threads }
+    requires { HasBuffer form.now.buffer form.now.stores }
     ensures { IfOk result (λ bytes. (m : Module) × IsContainerOf form.now m bytes) }
 {
     laws::at_most_one_content();
     laws::written_is_contained();
     bc_stream::laws::one_list();
+    bc_records::laws::one_module();
     let bitcode = kernel_bitcode(alloc, form)?;
     let info = PackInfo {
         minor: MINOR_VERSION,

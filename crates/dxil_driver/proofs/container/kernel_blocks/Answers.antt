@@ -1,0 +1,24 @@
+use Rattle.std.proofs.Common.{◌≡◌}
+use Rattle.ir_core.specs.declared.module.Module.{Module}
+use Rattle.bc_stream.specs.declared.block.BlockTree.{BlockTree}
+use Rattle.std.proofs.Common.{List}
+use Rattle.bc_stream.specs.Blocks.{contents_of}
+use Rattle.bc_records.specs.Records.{Recorded}
+use Rattle.dxil_driver.specs.Kernel.{IsKernelOf, RecordsKernel}
+use Rattle.dxil_driver.proofs.Containers.{IfOk-weaker, no_stores}
+use Rattle.dxil_driver.proofs.EmittedListed.{IsEmitted-listed}
+use Rattle.dxil_driver.proofs.container.kernel_blocks.Goals as goal
+
+pub to_blocks-requires-clause-listed : goal.to_blocks-requires-clause-listed
+to_blocks-requires-clause-listed c =
+    IsEmitted-listed c.args.form.now.buffer c.args.form.now.threads c.args.form.now.stores c.in_ok-module.module c.in_ok-module.ensures.emitted
+
+pub returns-clause-records : goal.returns-clause-records
+returns-clause-records c =
+    let kernel : IsKernelOf c.args.form.now c.in_ok-module.module = record {
+      metadata = c.in_ok-module.ensures.metadata;
+      same = c.in_ok-module.ensures.lane (no_stores c.args.form.now.buffer c.args.form.now.stores c.requires);
+      waveless = c.in_ok-module.ensures.waves;
+    } in
+    IfOk-weaker (λ (blocks : List BlockTree). Recorded (contents_of blocks) c.in_ok-module.module) (λ (blocks : List BlockTree). RecordsKernel c.args.form.now (contents_of blocks))
+    c.to_blocks.result (λ blocks recorded. (c.in_ok-module.module, kernel, recorded)) c.to_blocks.ensures.recorded

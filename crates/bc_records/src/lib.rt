@@ -4,7 +4,7 @@
 mod code;
 mod codes;
 mod constants;
-mod laws;
+pub mod laws;
 mod metadata;
 mod push;
 mod symbols;

@@ -23,7 +23,7 @@ abbrev pub most_source : ℕ
 most_source = 1048576
 
 -- the text is of the form that is compiled so far
-abbrev pub HasFirstForm : List ℕ → Type 0
+unfoldable pub HasFirstForm : List ℕ → Type 0
 HasFirstForm text = (form : FirstForm) × IsFirstForm text form
 
 -- the bytes contain a bitcode that spells blocks that record the module

@@ -1,8 +1,9 @@
 //! The real input and output of a process as a source and a sink.
 //!
-//! What stands outside the process is not known here, so neither tells its bytes.
+//! They tell the bytes that the reader and the writer tell. What stands outside the process is not known
+//! here, so over the standard streams they tell none.
 
-ghost use Rattle.std.specs.Prelude.{◌≡◌, ◌<◌, ◌≤◌, length, None, IfOk, OnErr, MatchResult};
+ghost use Rattle.std.specs.Prelude.{◌≡◌, ◌<◌, ◌≤◌, length, IfOk, OnErr, MatchResult};
 ghost use Rattle.std.specs.Io.{ReadsAtMost, WritesAtMost};
 ghost use Rattle.std.specs.Io.KnownBytes.{ReadConsumes, WriteAppends};
 ghost use Rattle.base_core.specs.Counts.{HasRisen, next_count};
@@ -26,6 +27,7 @@ pub struct HostSource<R> {
 impl<R: Read> HostSource<R> {
     /// A source that gives what the reader gives.
     pub fn new(input: R) -> HostSource<R>
+        ensures left { ⟦<HostSource<R> as Source>⟧.left result ≡ R.remaining input }
         ensures taken { ⟦<HostSource<R> as Source>⟧.taken result ≡ 0 }
         ensures faults { ⟦<HostSource<R> as Source>⟧.faults result ≡ 0 }
     {
@@ -38,7 +40,7 @@ impl<R: Read> HostSource<R> {
 }
 
 impl<R: Read> Source for HostSource<R> {
-    ghost left = { λ _. None };
+    ghost left = { λ s. R.remaining s.input };
 
     ghost taken = { λ s. s.taken };
 
@@ -48,7 +50,7 @@ impl<R: Read> Source for HostSource<R> {
     /// no room left.
     fn take(&mut self, into: &mut [u8]) -> Result<usize, Failed>
         ensures within { ReadsAtMost result into.new }
-        ensures bytes { ReadConsumes None None result into.new }
+        ensures bytes { ReadConsumes (R.remaining self.old.input) (R.remaining self.new.input) result into.new }
         ensures rest { LeavesRest result into.old into.new }
         ensures counted { RaisesBy result self.old.taken self.new.taken }
         ensures lasting { self.old.faults ≤ self.new.faults }
@@ -82,21 +84,22 @@ pub struct HostSink<W> {
 impl<W: Write> HostSink<W> {
     /// A sink that gives its bytes to the writer.
     pub fn new(output: W) -> HostSink<W>
-        ensures { ⟦<HostSink<W> as Sink>⟧.faults result ≡ 0 }
+        ensures written { ⟦<HostSink<W> as Sink>⟧.written result ≡ W.contents output }
+        ensures faults { ⟦<HostSink<W> as Sink>⟧.faults result ≡ 0 }
     {
         HostSink { output, faults: 0 }
     }
 }
 
 impl<W: Write> Sink for HostSink<W> {
-    ghost written = { λ _. None };
+    ghost written = { λ s. W.contents s.output };
 
     ghost faults = { λ s. s.faults };
 
     /// Writes once. An error of the writer is a fault, and so is that it takes no byte of a piece.
     fn give(&mut self, bytes: &[u8]) -> Result<usize, Failed>
         ensures within { WritesAtMost result bytes.now }
-        ensures bytes { WriteAppends None None result bytes.now }
+        ensures bytes { WriteAppends (W.contents self.old.output) (W.contents self.new.output) result bytes.now }
         ensures some { IfOk result (λ n. 0 < length bytes.now → 0 < n) }
         ensures lasting { self.old.faults ≤ self.new.faults }
         ensures cause { OnErr result (HasRisen self.old.faults self.new.faults) }

@@ -1,21 +1,12 @@
--- Bytes spell at most one list.
-use Rattle.std.proofs.Common.{◌≡◌, ℕ, List, [], ◌∷◌, ◌++◌, length, map, refl, sym, ap, ◌∙◌, subst, inl, arith}
-use Rattle.std.specs.List.{All}
+-- Bytes spell at most one list, or have one fault.
+use Rattle.std.proofs.Common.{◌≡◌, ℕ, ◌≤◌, List, [], ◌∷◌, ◌++◌, length, refl, sym, ap, ◌∙◌, subst, inl, inr, arith}
+use Rattle.std.specs.List.{All, flat_map}
 use Rattle.std.proofs.lemmas.List.{append_assoc}
 use Rattle.std.proofs.lemmas.List.Elements.{All-head}
-use Rattle.bc_stream.specs.Bits.{low_bits, Place, Step, ◌then◌, Fixed, Aligned, Vbr, Vbrs}
+use Rattle.bc_stream.specs.Bits.{low_bits, Place, ◌then◌, Fixed, Aligned, Vbr, Vbrs}
 use Rattle.bc_stream.specs.Blocks.{Contents, no_more, a_record, a_block}
-use Rattle.bc_stream.specs.Spelling.{Raw, raw_leave, raw_enter, raw_record, reads, State, width_in, frames_after, Good, Leads, Shown, shown_leave, shown, shown_of, start, IsEnd, OneList, outside_blocks}
+use Rattle.bc_stream.specs.Spelling.{Raw, raw_leave, raw_enter, raw_define, raw_record, raw_undefined, id_of, layout, reads, State, width_in, frames_after, Has, Good, Leads, Shown, shown_leave, shown, shown_of, start, IsEnd, OneList, OneFault, NoFault, FaultHere, outside_blocks, undefined_id}
 use Rattle.bc_stream.proofs.StepLemmas.{then_once, fixed_once, aligned_once, vbr_once, vbrs_once}
-
--- pieces of different ids
-other_ids : (w a b : ℕ) (R S : Step) (f t u : Place) (Z : Type 0) → (a ≡ b → ⊥) → (Fixed w a then R) f t → (Fixed w b then S) f u → Z
-other_ids w a b R S f t u Z differ p q =
-    then_once (Fixed w a) (Fixed w b) R S (a ≡ b) Z f t u (λ m n x y. fixed_once w a b f m n x y) (λ e m x y. absurd (differ e)) p q
-
-same_id : (w a : ℕ) (R S : Step) (f t u : Place) (Z : Type 0) → ((m : Place) → R m t → S m u → Z) → (Fixed w a then R) f t → (Fixed w a then S) f u → Z
-same_id w a R S f t u Z go p q =
-    then_once (Fixed w a) (Fixed w a) R S (a ≡ a) Z f t u (λ m n x y. fixed_once w a a f m n x y) (λ e m x y. go m x y) p q
 
 enter_once : (i j v w n m : ℕ) (f t u : Place) →
     (Vbr 8 i then Vbr 4 v then Aligned then Fixed 32 n) f t → (Vbr 8 j then Vbr 4 w then Aligned then Fixed 32 m) f u →
@@ -47,29 +38,38 @@ record_once c d xs bs f t u =
     let same : raw_record c xs ≡ raw_record d bs = cc (codes, values.0) in
     (same, values.1)))
 
+layout_once : (x y : Raw) (f t u : Place) → id_of x ≡ id_of y → layout x f t → layout y f u → (x ≡ y) × (t ≡ u)
+layout_once raw_leave raw_leave f t u e p q = (refl, aligned_once f t u p q)
+layout_once (raw_enter i v n) (raw_enter j w m) f t u e p q = enter_once i j v w n m f t u p q
+layout_once raw_define raw_define f t u e p q = (refl, p ∙ sym q)
+layout_once (raw_record c xs) (raw_record d bs) f t u e p q = record_once c d xs bs f t u p q
+layout_once (raw_undefined i) (raw_undefined j) f t u e p q = (ap raw_undefined e, p.1 ∙ sym q.1)
+layout_once raw_leave (raw_enter j w m) f t u e p q = absurd (omega (arith, e))
+layout_once raw_leave raw_define f t u e p q = absurd (omega (arith, e))
+layout_once raw_leave (raw_record d bs) f t u e p q = absurd (omega (arith, e))
+layout_once raw_leave (raw_undefined j) f t u e p q = absurd (omega (arith, e, q.0))
+layout_once (raw_enter i v n) raw_leave f t u e p q = absurd (omega (arith, e))
+layout_once (raw_enter i v n) raw_define f t u e p q = absurd (omega (arith, e))
+layout_once (raw_enter i v n) (raw_record d bs) f t u e p q = absurd (omega (arith, e))
+layout_once (raw_enter i v n) (raw_undefined j) f t u e p q = absurd (omega (arith, e, q.0))
+layout_once raw_define raw_leave f t u e p q = absurd (omega (arith, e))
+layout_once raw_define (raw_enter j w m) f t u e p q = absurd (omega (arith, e))
+layout_once raw_define (raw_record d bs) f t u e p q = absurd (omega (arith, e))
+layout_once raw_define (raw_undefined j) f t u e p q = absurd (omega (arith, e, q.0))
+layout_once (raw_record c xs) raw_leave f t u e p q = absurd (omega (arith, e))
+layout_once (raw_record c xs) (raw_enter j w m) f t u e p q = absurd (omega (arith, e))
+layout_once (raw_record c xs) raw_define f t u e p q = absurd (omega (arith, e))
+layout_once (raw_record c xs) (raw_undefined j) f t u e p q = absurd (omega (arith, e, q.0))
+layout_once (raw_undefined i) raw_leave f t u e p q = absurd (omega (arith, e, p.0))
+layout_once (raw_undefined i) (raw_enter j w m) f t u e p q = absurd (omega (arith, e, p.0))
+layout_once (raw_undefined i) raw_define f t u e p q = absurd (omega (arith, e, p.0))
+layout_once (raw_undefined i) (raw_record d bs) f t u e p q = absurd (omega (arith, e, p.0))
+
+-- what is read at a place is one piece
 pub reads_once : (w : ℕ) (x y : Raw) (f t u : Place) → reads w x f t → reads w y f u → (x ≡ y) × (t ≡ u)
-reads_once w raw_leave raw_leave f t u p q =
-    same_id w 0 Aligned Aligned f t u ((raw_leave ≡ raw_leave) × (t ≡ u)) (λ m x y. (refl, aligned_once m t u x y)) p q
-reads_once w raw_leave (raw_enter j v m) f t u p q =
-    other_ids w 0 1 Aligned (Vbr 8 j then Vbr 4 v then Aligned then Fixed 32 m) f t u ((raw_leave ≡ raw_enter j v m) × (t ≡ u)) (λ e. omega (arith, e)) p q
-reads_once w raw_leave (raw_record d bs) f t u p q =
-    other_ids w 0 3 Aligned (Vbr 6 d then Vbr 6 (length bs) then Vbrs 6 bs) f t u ((raw_leave ≡ raw_record d bs) × (t ≡ u)) (λ e. omega (arith, e)) p q
-reads_once w (raw_enter i v n) raw_leave f t u p q =
-    other_ids w 1 0 (Vbr 8 i then Vbr 4 v then Aligned then Fixed 32 n) Aligned f t u ((raw_enter i v n ≡ raw_leave) × (t ≡ u)) (λ e. omega (arith, e)) p q
-reads_once w (raw_enter i v n) (raw_enter j z m) f t u p q =
-    same_id w 1 (Vbr 8 i then Vbr 4 v then Aligned then Fixed 32 n) (Vbr 8 j then Vbr 4 z then Aligned then Fixed 32 m) f t u
-    ((raw_enter i v n ≡ raw_enter j z m) × (t ≡ u)) (λ a x y. enter_once i j v z n m a t u x y) p q
-reads_once w (raw_enter i v n) (raw_record d bs) f t u p q =
-    other_ids w 1 3 (Vbr 8 i then Vbr 4 v then Aligned then Fixed 32 n) (Vbr 6 d then Vbr 6 (length bs) then Vbrs 6 bs) f t u
-    ((raw_enter i v n ≡ raw_record d bs) × (t ≡ u)) (λ e. omega (arith, e)) p q
-reads_once w (raw_record c xs) raw_leave f t u p q =
-    other_ids w 3 0 (Vbr 6 c then Vbr 6 (length xs) then Vbrs 6 xs) Aligned f t u ((raw_record c xs ≡ raw_leave) × (t ≡ u)) (λ e. omega (arith, e)) p q
-reads_once w (raw_record c xs) (raw_enter j v m) f t u p q =
-    other_ids w 3 1 (Vbr 6 c then Vbr 6 (length xs) then Vbrs 6 xs) (Vbr 8 j then Vbr 4 v then Aligned then Fixed 32 m) f t u
-    ((raw_record c xs ≡ raw_enter j v m) × (t ≡ u)) (λ e. omega (arith, e)) p q
-reads_once w (raw_record c xs) (raw_record d bs) f t u p q =
-    same_id w 3 (Vbr 6 c then Vbr 6 (length xs) then Vbrs 6 xs) (Vbr 6 d then Vbr 6 (length bs) then Vbrs 6 bs) f t u
-    ((raw_record c xs ≡ raw_record d bs) × (t ≡ u)) (λ a x y. record_once c d xs bs a t u x y) p q
+reads_once w x y f t u p q =
+    then_once (Fixed w (id_of x)) (Fixed w (id_of y)) (layout x) (layout y) (id_of x ≡ id_of y) ((x ≡ y) × (t ≡ u)) f t u
+    (λ m n a b. fixed_once w (id_of x) (id_of y) f m n a b) (λ e m a b. layout_once x y m t u e a b) p q
 
 two_bits_of_one : low_bits 2 1 ≡ 1 ∷ 0 ∷ []
 unfolding low_bits
@@ -84,25 +84,42 @@ one_in_zeros w f t two first zeros =
 -- outside all blocks a good piece is the beginning of a block, whose id has a bit that isn't 0
 no_piece_in_zeros : (raw : Raw) (behind : Place) (s : State) → IsEnd s → Good s raw behind → ⊥
 no_piece_in_zeros raw_leave behind s e g = g.has_none outside_blocks (inl (refl, e.closed))
+no_piece_in_zeros raw_define behind s e g = g.has_none outside_blocks (inl (refl, e.closed))
 no_piece_in_zeros (raw_record code values) behind s e g = g.has_none outside_blocks (inl (refl, e.closed))
+no_piece_in_zeros (raw_undefined id) behind s e g = g.has_none undefined_id refl
 no_piece_in_zeros (raw_enter id v n) behind s e g =
-    let w : ℕ = width_in s.frames in
-    let two : w ≡ 2 = ap width_in e.closed in
-    let first : Fixed w 1 s.place g.is_read.middle = g.is_read.one in
-    one_in_zeros w s.place g.is_read.middle two first e.zeros
+    one_in_zeros (width_in s.frames) s.place g.is_read.middle (ap width_in e.closed) g.is_read.one e.zeros
 
-leads_once : (xs ys : List Raw) (s d e : State) → IsEnd d → IsEnd e → Leads xs d s → Leads ys e s → xs ≡ ys
-leads_once [] [] s d e p q x y = refl
-leads_once [] (y ∷ ys) s d e p q x l = absurd (no_piece_in_zeros y l.behind s (subst IsEnd x p) l.good)
-leads_once (x ∷ xs) [] s d e p q k y = absurd (no_piece_in_zeros x k.behind s (subst IsEnd y q) k.good)
+-- no good piece begins here
+Stops : State → Type 0
+Stops s = (raw : Raw) (behind : Place) → Good s raw behind → ⊥
+
+stops_at_end : (s : State) → IsEnd s → Stops s
+unfolding Stops
+stops_at_end s e raw behind g = no_piece_in_zeros raw behind s e g
+
+stops_at_fault : (s : State) (kind : ℕ) → FaultHere s kind → Stops s
+unfolding Stops
+stops_at_fault s kind (inl h) raw behind g = h.1 raw behind g.is_read
+stops_at_fault s kind (inr h) raw behind g =
+    let o = reads_once (width_in s.frames) h.raw raw s.place h.behind behind h.is_read g.is_read in
+    let has : Has s.frames behind raw kind = subst (λ b. Has s.frames b raw kind) o.1 (subst (λ r. Has s.frames h.behind r kind) o.0 h.has) in
+    g.has_none kind has
+
+-- good pieces lead to one place where none begins
+leads_once : (xs ys : List Raw) (s d e : State) → Stops d → Stops e → Leads xs d s → Leads ys e s → (xs ≡ ys) × (d ≡ e)
+unfolding Stops
+leads_once [] [] s d e p q x y = (refl, x ∙ sym y)
+leads_once [] (y ∷ ys) s d e p q x l = absurd (subst Stops x p y l.behind l.good)
+leads_once (x ∷ xs) [] s d e p q k y = absurd (subst Stops y q x k.behind k.good)
 leads_once (x ∷ xs) (y ∷ ys) s d e p q k l =
     let o = reads_once (width_in s.frames) x y s.place k.behind l.behind k.good.is_read l.good.is_read in
     let at : State = record { frames = frames_after s.frames x k.behind; place = k.behind } in
     let after : State = record { frames = frames_after s.frames y l.behind; place = l.behind } in
     let same : at ≡ after = λ i. record { frames = frames_after s.frames (o.0 i) (o.1 i); place = o.1 i } in
-    let rest : xs ≡ ys = leads_once xs ys at d e p q k.rest (subst (Leads ys e) (sym same) l.rest) in
-    let both : x ∷ xs ≡ y ∷ ys = cc (o.0, rest) in
-    both
+    let rest = leads_once xs ys at d e p q k.rest (subst (Leads ys e) (sym same) l.rest) in
+    let both : x ∷ xs ≡ y ∷ ys = cc (o.0, rest.0) in
+    (both, rest.1)
 
 -- lists are told by what their pieces show, also where more follows the end of the block
 shown_once : (a b : Contents) (r s : List Shown) → shown_of a ++ (shown_leave ∷ r) ≡ shown_of b ++ (shown_leave ∷ s) → (a ≡ b) × (r ≡ s)
@@ -133,9 +150,43 @@ shown_once (a_block i h a) (a_block j k b) r s e =
 blocks_once : (a b : Contents) → shown_of a ≡ shown_of b → a ≡ b
 blocks_once a b e = (shown_once a b [] [] (ap (λ l. l ++ (shown_leave ∷ [])) e)).0
 
+magic_once : (bytes a b : List ℕ) → bytes ≡ 66 ∷ 67 ∷ 192 ∷ 222 ∷ a → bytes ≡ 66 ∷ 67 ∷ 192 ∷ 222 ∷ b → a ≡ b
+magic_once bytes a b p q = cc (sym p ∙ q)
+
 pub one_list : OneList
 one_list bytes a b p q =
-    let behind : p.behind ≡ q.behind = cc (sym p.magic ∙ q.magic) in
+    let behind : p.behind ≡ q.behind = magic_once bytes p.behind q.behind p.magic q.magic in
     let again : Leads q.pieces q.end (start p.behind) = subst (λ l. Leads q.pieces q.end (start l)) (sym behind) q.leads in
-    let same : p.pieces ≡ q.pieces = leads_once p.pieces q.pieces (start p.behind) p.end q.end p.ends q.ends p.leads again in
-    blocks_once a b (sym p.shows ∙ (ap (map shown) same ∙ q.shows))
+    let same = leads_once p.pieces q.pieces (start p.behind) p.end q.end (stops_at_end p.end p.ends) (stops_at_end q.end q.ends) p.leads again in
+    blocks_once a b (sym p.shows ∙ (ap (flat_map shown) same.0 ∙ q.shows))
+
+pub no_fault : NoFault
+no_fault bytes blocks kind bit p (inl h) = h.2 p.behind p.magic
+no_fault bytes blocks kind bit p (inr h) =
+    let behind : p.behind ≡ h.behind = magic_once bytes p.behind h.behind p.magic h.magic in
+    let again : Leads h.pieces h.from (start p.behind) = subst (λ l. Leads h.pieces h.from (start l)) (sym behind) h.leads in
+    let same = leads_once p.pieces h.pieces (start p.behind) p.end h.from (stops_at_end p.end p.ends) (stops_at_fault h.from kind h.here) p.leads again in
+    h.goes_on (subst IsEnd same.1 p.ends)
+
+fault_once : (s : State) (k l : ℕ) → FaultHere s k → FaultHere s l → k ≡ l
+fault_once s k l (inl h) (inl g) = h.0 ∙ sym g.0
+fault_once s k l (inl h) (inr g) = absurd (h.1 g.raw g.behind g.is_read)
+fault_once s k l (inr h) (inl g) = absurd (g.1 h.raw h.behind h.is_read)
+fault_once s k l (inr h) (inr g) =
+    let o = reads_once (width_in s.frames) h.raw g.raw s.place h.behind g.behind h.is_read g.is_read in
+    let here : Has s.frames g.behind g.raw k = subst (λ b. Has s.frames b g.raw k) o.1 (subst (λ r. Has s.frames h.behind r k) o.0 h.has) in
+    let there : Has s.frames h.behind h.raw l = subst (λ b. Has s.frames b h.raw l) (sym o.1) (subst (λ r. Has s.frames g.behind r l) (sym o.0) g.has) in
+    let low : l ≤ k = g.least k here in
+    let high : k ≤ l = h.least l there in
+    omega (arith, low, high)
+
+pub one_fault : OneFault
+one_fault bytes k l a b (inl h) (inl g) = (h.0 ∙ sym g.0, h.1 ∙ sym g.1)
+one_fault bytes k l a b (inl h) (inr g) = absurd (h.2 g.behind g.magic)
+one_fault bytes k l a b (inr h) (inl g) = absurd (g.2 h.behind h.magic)
+one_fault bytes k l a b (inr h) (inr g) =
+    let behind : h.behind ≡ g.behind = magic_once bytes h.behind g.behind h.magic g.magic in
+    let again : Leads g.pieces g.from (start h.behind) = subst (λ x. Leads g.pieces g.from (start x)) (sym behind) g.leads in
+    let same = leads_once h.pieces g.pieces (start h.behind) h.from g.from (stops_at_fault h.from k h.here) (stops_at_fault g.from l g.here) h.leads again in
+    let kinds : k ≡ l = fault_once g.from k l (subst (λ s. FaultHere s k) same.1 h.here) g.here in
+    (kinds, h.at ∙ (ap (λ s. s.place.at) same.1 ∙ sym g.at))

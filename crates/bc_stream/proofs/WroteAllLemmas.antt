@@ -1,7 +1,8 @@
 -- What was appended to the bits before spells blocks and records.
-use Rattle.std.proofs.Common.{◌≡◌, ◌≢◌, ℕ, suc, ◌+◌, ◌*◌, ◌/◌, ◌%◌, ◌^◌, ◌<◌, ◌≤◌, List, [], ◌∷◌, ◌++◌, length, map, max, refl, sym, ap, ◌∙◌, subst, arith, inl, inr}
-use Rattle.std.specs.List.{All}
-use Rattle.std.proofs.lemmas.List.{append_assoc, append-nil, length-append, map-append}
+use Rattle.std.proofs.Common.{◌≡◌, ◌≢◌, ℕ, suc, ◌+◌, ◌*◌, ◌/◌, ◌%◌, ◌^◌, ◌<◌, ◌≤◌, List, [], ◌∷◌, ◌++◌, length, max, refl, sym, ap, ◌∙◌, subst, arith, inl, inr}
+use Rattle.std.specs.List.{All, flat_map}
+use Rattle.std.proofs.lemmas.Grind.{flat_map-append}
+use Rattle.std.proofs.lemmas.List.{append_assoc, append-nil, length-append}
 use Rattle.std.proofs.lemmas.List.Elements.{All-nil}
 use Rattle.std.proofs.Math.Nat.{le-max_left, le-max_right}
 use Rattle.bc_stream.specs.declared.block.BlockTree.{BlockTree}
@@ -52,7 +53,7 @@ wrote_append width a b old middle new p q = record {
   bits = p.bits ++ q.bits;
   appended = q.appended ∙ (ap (λ l. l ++ q.bits) p.appended ∙ append_assoc old p.bits q.bits);
   pieces = p.pieces ++ q.pieces;
-  shows = map-append shown p.pieces q.pieces ∙ (ap (λ l. l ++ map shown q.pieces) p.shows ∙ (ap (λ l. shown_of a ++ l) q.shows ∙ sym (shown_of-append a b)));
+  shows = flat_map-append shown p.pieces q.pieces ∙ (ap (λ l. l ++ flat_map shown q.pieces) p.shows ∙ (ap (λ l. shown_of a ++ l) q.shows ∙ sym (shown_of-append a b)));
   leads = λ base rest frames on w may.
       let both = may_stand_one (length frames) a b may in
       let from : List ℕ → State = λ l. record { frames = frames; place = place (base + length old) l } in
@@ -146,7 +147,7 @@ wrote_block width id words inner bytes old middle new bits body fits count p lea
       bits = enter.bits ++ body;
       appended = joined ∙ (ap (λ l. l ++ body) enter.appended ∙ append_assoc old enter.bits body);
       pieces = raw_enter id 3 words ∷ (p.pieces ++ raw_leave ∷ []);
-      shows = ap (λ l. shown_enter id ∷ l) (map-append shown p.pieces (raw_leave ∷ []) ∙ ap (λ l. l ++ shown_leave ∷ []) p.shows);
+      shows = ap (λ l. shown_enter id ∷ l) (flat_map-append shown p.pieces (raw_leave ∷ []) ∙ ap (λ l. l ++ shown_leave ∷ []) p.shows);
       leads = λ base rest frames on w may.
           let from : List ℕ → Place = place (base + length old) in
           let behind : Place = place (base + length middle) (body ++ rest) in

@@ -1,5 +1,6 @@
 -- What writing appends to the bits that were written before. Only the writer's own functions cite it.
-use Rattle.std.specs.Prelude.{◌≡◌, ◌≢◌, ℕ, suc, ◌+◌, ◌%◌, ◌<◌, List, ◌++◌, length, map}
+use Rattle.std.specs.Prelude.{◌≡◌, ◌≢◌, ℕ, suc, ◌+◌, ◌%◌, ◌<◌, List, ◌++◌, length}
+use Rattle.std.specs.List.{flat_map}
 use Rattle.bc_stream.specs.Bits.{Place, Step}
 use Rattle.bc_stream.specs.Blocks.{Contents, no_more, a_record, a_block}
 use Rattle.bc_stream.specs.Spelling.{Raw, Frame, Leads, shown, shown_of, width_in, most_levels}
@@ -26,7 +27,7 @@ pub record WroteAll (width : ℕ) (contents : Contents) (old : List ℕ) (new : 
   pub bits : List ℕ
   pub appended : new ≡ old ++ bits
   pub pieces : List Raw
-  pub shows : map shown pieces ≡ shown_of contents
+  pub shows : flat_map shown pieces ≡ shown_of contents
   pub leads : (base : ℕ) (rest : List ℕ) (frames : List Frame) → base % 32 ≡ 0 → width_in frames ≡ width →
       MayStand (length frames) contents →
       Leads pieces (record { frames = frames; place = place (base + length new) rest }) (record { frames = frames; place = place (base + length old) (bits ++ rest) })

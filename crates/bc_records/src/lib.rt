@@ -4,7 +4,7 @@
 mod code;
 mod codes;
 mod constants;
-pub mod laws;
+mod laws;
 mod metadata;
 mod push;
 mod symbols;

@@ -32,14 +32,16 @@ pub written_container : (form : FirstForm) (bitcode : List ℕ) → AtMostOneCon
     length bitcode < 2 ^ 31 → SpellsKernel form bitcode → (m : Module) × IsContainerOf form m (written_form bitcode 0 false)
 written_container form bitcode contents written lists modules small (blocks, spelled, (m, kernel, recorded)) =
     let bytes : List ℕ = written_form bitcode 0 false in
-    let spells : Spells bytes m = record { bitcode = bitcode; major = 6; minor = 0; contained = written bitcode 0 false small (omega arith); blocks = blocks; spelled = spelled; recorded = recorded } in
-    (m, record {
-      written = record { bitcode = bitcode; form = ap (λ (waves : Bool). written_form bitcode 0 waves) (sym kernel.waveless) };
-      spells = spells;
-      only = λ other there. only_module contents lists modules bytes m other spells there;
-      metadata = kernel.metadata;
-      same = kernel.same;
-    })
+    let spells : Spells bytes m = record { bitcode = bitcode; major = 6; minor = 0; contained = written bitcode 0 false small (omega arith); blocks = blocks; spelled = spelled; recorded = recorded } in (
+      m,
+      record {
+        written = record { bitcode = bitcode; form = ap (λ (waves : Bool). written_form bitcode 0 waves) (sym kernel.waveless) };
+        spells = spells;
+        only = λ other there. only_module contents lists modules bytes m other spells there;
+        metadata = kernel.metadata;
+        same = kernel.same;
+      },
+    )
 
 -- blocks that record the module of a kernel
 pub RecordsKernel-from : (form : FirstForm) (m : Module) (view : Contents) → IsKernelOf form m → Recorded view m → RecordsKernel form view

@@ -53,9 +53,13 @@ pub record IsContainerOf (form : FirstForm) (m : Module) (bytes : List ℕ) : Ty
   pub metadata : HasMetadata m (kernel_resources form.buffer) (kernel_threads form.threads) entry_name
   pub same : SameLane (literal_stores form.stores) (module_lane m)
 
--- the bytes are a container for the text
-pub record Compiled (text bytes : List ℕ) : Type 0 where
+-- the text is a kernel, and the bytes are its container
+pub record IsKernelsContainer (text bytes : List ℕ) : Type 0 where
   pub form : FirstForm
   pub is_form : IsFirstForm text form
   pub kernel : Module
   pub container : IsContainerOf form kernel bytes
+
+-- the bytes are what the text is compiled to
+unfoldable pub Compiled : (text bytes : List ℕ) → Type 0
+Compiled text bytes = IsKernelsContainer text bytes

@@ -38,7 +38,7 @@ impl From<NoMemory> for CompileFault {
 /// # Errors
 /// `TooLong` exactly above 1048576 bytes, `Unbuilt` exactly where a text within that length isn't of the
 /// first form, and `Memory`, to which both yield. So a first form within that length gives `Ok` or `Memory`.
-#[tactic(auto, unfolding(crate::specs::Compiled::HasFirstForm))]
+#[tactic(auto, unfolding(crate::specs::Compiled::HasFirstForm, crate::specs::Compiled::Compiled))]
 pub fn compile(alloc: Global, text: &[u8]) -> Result<Bytes, CompileFault>
     ensures compiled { IfOk result (λ bytes. Compiled text.now bytes) }
     ensures accepted { OnOk result ((length text.now ≤ most_source) × HasFirstForm text.now) }

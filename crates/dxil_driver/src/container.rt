@@ -5,7 +5,6 @@ ghost use Rattle.std.specs.Prelude.{◌≡◌, ◌%◌, ◌^◌, ◌≤◌, ◌<
 ghost use Rattle.ir_core.specs.declared.module.Module.{Module};
 ghost use Rattle.bc_stream.specs.Blocks.{HasNoBlockZero, contents_of, levels};
 ghost use Rattle.bc_stream.specs.Spelling.{most_levels};
-
 ghost use Rattle.dxil_driver.specs.Compiled.{IsContainerOf};
 ghost use Rattle.dxil_driver.specs.FirstForm.{HasBuffer};
 ghost use Rattle.dxil_driver.specs.Kernel.{RecordsKernel, SpellsKernel};

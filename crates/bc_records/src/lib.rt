@@ -4,7 +4,7 @@
 mod code;
 mod codes;
 mod constants;
-mod laws;
+pub mod laws;
 mod metadata;
 mod push;
 mod symbols;
@@ -12,5 +12,4 @@ mod types;
 mod values;
 mod write;
 
-pub use laws::one_module;
 pub use write::to_blocks;

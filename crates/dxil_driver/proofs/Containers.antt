@@ -1,12 +1,11 @@
 -- The container of a kernel, from what each layer promises.
-use Rattle.std.proofs.Common.{◌≡◌, ℕ, ◌^◌, ◌<◌, ◌≤◌, List, length, refl, sym, ◌∙◌, ap, subst, arith, false, Bool, []}
+use Rattle.std.proofs.Common.{◌≡◌, ℕ, ◌^◌, ◌<◌, List, length, sym, ap, subst, arith, false, Bool, []}
 use Rattle.std.specs.Prelude.{Result, Ok, Err, IfOk, Option, None, Some}
 use Rattle.ir_core.specs.declared.module.Module.{Module}
-use Rattle.ir_core.specs.Waves.{uses_waves}
 use Rattle.bc_stream.specs.Blocks.{Contents}
 use Rattle.bc_stream.specs.Spelling.{Spelled, OneList}
 use Rattle.bc_records.specs.Records.{Recorded, OneModule}
-use Rattle.dx_container.specs.Container.{Contained, written_form}
+use Rattle.dx_container.specs.Container.{written_form}
 use Rattle.dx_container.specs.Laws.{AtMostOneContent, WrittenIsContained}
 use Rattle.dxil_driver.specs.declared.stores.FirstForm.{FirstForm}
 use Rattle.dxil_driver.specs.declared.stores.LiteralStore.{LiteralStore}

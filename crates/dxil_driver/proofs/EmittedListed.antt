@@ -1,17 +1,16 @@
 -- The records of a kernel's module are among those that are written.
-use Rattle.std.proofs.Common.{◌≡◌, ℕ, List, [], ◌∷◌, ◌++◌, map, refl, subst, sym}
+use Rattle.std.proofs.Common.{ℕ, List, [], ◌∷◌, ◌++◌, map, refl, subst, sym}
 use Rattle.std.specs.Prelude.{Option, None, Some}
 use Rattle.std.specs.List.{All, AllByRecursion}
 use Rattle.std.proofs.lemmas.List.Elements.{All-from_recursion}
 use Rattle.ir_core.specs.declared.instruction.Inst.TheVariants.{Ret}
-use Rattle.ir_core.specs.declared.instruction.Inst.{Inst}
 use Rattle.ir_core.specs.declared.instruction.Body.{Body}
 use Rattle.ir_core.specs.declared.module.Function.{Function}
 use Rattle.ir_core.specs.declared.module.Module.{Module}
 use Rattle.ir_core.specs.Values.{instructions, bodies}
 use Rattle.bc_records.specs.FirstList.{IsListed, IsListedType, IsListedInst}
 use Rattle.dxil_driver.specs.declared.stores.LiteralStore.{LiteralStore}
-use Rattle.dxil_driver.specs.Emitted.{IsEmitted, emitted_module, emitted_types, emitted_functions, emitted_body, emitted_instructions, buffer_store}
+use Rattle.dxil_driver.specs.Emitted.{IsEmitted, emitted_module, emitted_types, emitted_functions, emitted_body, buffer_store}
 
 stores_listed : (handle : ℕ) (pairs : List (ℕ × ℕ)) → AllByRecursion IsListedInst ((map (buffer_store handle) pairs ++ Ret ∷ []) ++ [])
 stores_listed handle [] = (tt, tt)

@@ -1,5 +1,3 @@
-use Rattle.std.proofs.Common.{◌≡◌}
-use Rattle.ir_core.specs.declared.module.Module.{Module}
 use Rattle.bc_stream.specs.declared.block.BlockTree.{BlockTree}
 use Rattle.std.proofs.Common.{List}
 use Rattle.bc_stream.specs.Blocks.{contents_of}

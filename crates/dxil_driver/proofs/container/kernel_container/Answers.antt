@@ -1,4 +1,4 @@
-use Rattle.std.proofs.Common.{List, ℕ, ◌≡◌, ◌^◌, ◌<◌, length, false, subst, sym, ◌∙◌, ap, arith}
+use Rattle.std.proofs.Common.{List, ℕ, ◌≡◌, ◌^◌, ◌<◌, length, false, subst, sym, ap, arith}
 use Rattle.ir_core.specs.declared.module.Module.{Module}
 use Rattle.dx_container.specs.Container.{written_form}
 use Rattle.dxil_driver.specs.Compiled.{IsContainerOf}

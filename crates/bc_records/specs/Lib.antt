@@ -1,0 +1,11 @@
+pub mod Entries
+pub mod TypeRecords
+pub mod ConstantRecords
+pub mod MetadataRecords
+pub mod SymbolRecords
+pub mod BodyRecords
+pub mod ModuleRecords
+pub mod Ranges
+pub mod FirstList
+pub mod Records
+pub mod Written

@@ -1,13 +1,14 @@
-// A library with one function.
+//! Modules as blocks and records (LLVM Bitcode File Format, "LLVM IR Encoding").
 #![tactic(auto)]
 
-ghost use Rattle.std.specs.Prelude.{◌≡◌};
-ghost use Rattle.bc_records.specs.Echo.{echo_of};
+mod code;
+mod codes;
+mod constants;
+mod metadata;
+mod push;
+mod symbols;
+mod types;
+mod values;
+mod write;
 
-// The `ensures` clause is the contract: what `echo` returns is `echo_of` of its argument, a definition
-// in `specs/Echo.antt`, which a caller's clause can cite too.
-pub fn echo(x: usize) -> usize
-    ensures { result ≡ echo_of x }
-{
-    x
-}
+pub use write::to_blocks;

@@ -1,5 +1,6 @@
 -- The equations of `parts_contents` and `contents_of`, one for each form, and what a part more at the end gives.
-use Rattle.std.proofs.Common.{◌≡◌, List, [], ◌∷◌, ◌++◌, refl, sym, ap, subst, ◌∙◌}
+use Rattle.std.proofs.Common.{◌≡◌, ℕ, ◌+◌, ◌<◌, List, [], ◌∷◌, ◌++◌, length, take, get_or, refl, sym, ap, subst, ◌∙◌}
+use Rattle.std.proofs.lemmas.List.{take_more}
 use Rattle.bc_stream.specs.Blocks.{Contents, no_more, a_record, a_block, append, part_step, block_step, before_part, before_block, parts_contents, contents_of}
 use Rattle.bc_stream.specs.declared.block.Entry as entry_type
 use Rattle.bc_stream.specs.declared.block.Part.{Part, Part-F, out-Part, roll-Part, roll-out-Part, fold-roll-Part}
@@ -105,3 +106,26 @@ pub append-append : (a b c : Contents) → append (append a b) c ≡ append a (a
 append-append no_more b c = refl
 append-append (a_record code values rest) b c = ap (a_record code values) (append-append rest b c)
 append-append (a_block id inner rest) b c = ap (a_block id inner) (append-append rest b c)
+
+-- One part more of a list.
+pub parts_contents-more : (parts : List Part) (i : ℕ) (part : Part) → i < length parts → part ≡ get_or parts i part →
+    parts_contents (take (i + 1) parts) ≡ append (parts_contents (take i parts)) (before_part part no_more)
+parts_contents-more parts i part within is =
+    ap parts_contents (take_more parts i part within ∙ ap (λ p. take i parts ++ p ∷ []) (sym is)) ∙ parts_contents-push (take i parts) part
+
+pub contents_of-more : (blocks : List BlockTree) (i : ℕ) (block : BlockTree) → i < length blocks → block ≡ get_or blocks i block →
+    contents_of (take (i + 1) blocks) ≡ append (contents_of (take i blocks)) (a_block block.id (parts_contents block.parts) no_more)
+contents_of-more blocks i block within is =
+    ap contents_of (take_more blocks i block within ∙ ap (λ p. take i blocks ++ p ∷ []) (sym is)) ∙ push-outermost (take i blocks) block
+
+pub block_more : (parts : List Part) (i : ℕ) (part : Part) (block : BlockTree) → i < length parts → part ≡ get_or parts i part → part ≡ Block block →
+    parts_contents (take (i + 1) parts) ≡ append (parts_contents (take i parts)) (a_block block.id (parts_contents block.parts) no_more)
+block_more parts i part block within is form =
+    parts_contents-more parts i part within is
+    ∙ ap (append (parts_contents (take i parts))) (ap (λ p. before_part p no_more) form ∙ (before_part-Block block no_more ∙ before_block-is block no_more))
+
+pub entry_more : (parts : List Part) (i : ℕ) (part : Part) (entry : entry_type.Entry) → i < length parts → part ≡ get_or parts i part → part ≡ Entry entry →
+    parts_contents (take (i + 1) parts) ≡ append (parts_contents (take i parts)) (a_record entry.code entry.values no_more)
+entry_more parts i part entry within is form =
+    parts_contents-more parts i part within is
+    ∙ ap (append (parts_contents (take i parts))) (ap (λ p. before_part p no_more) form ∙ before_part-Entry entry no_more)

@@ -1,4 +1,7 @@
 pub mod BitLemmas
 pub mod BlockLemmas
-pub mod StepLemmas
 pub mod SpellingLaw
+pub mod StepLemmas
+pub mod WriterLemmas
+pub mod WroteAllLemmas
+pub mod WroteLemmas

@@ -1,5 +1,5 @@
 -- Blocks and records as plain data, apart from how they are held and how they are spelled.
-use Rattle.std.specs.Prelude.{ℕ, List, [], ◌∷◌, map}
+use Rattle.std.specs.Prelude.{◌≢◌, ℕ, suc, max, List, [], ◌∷◌, map}
 use Rattle.bc_stream.specs.declared.block.Part.{Part, Part-F, fold-Part}
 use Rattle.bc_stream.specs.declared.block.BlockTree.{BlockTree, BlockTree-F, fold-BlockTree}
 
@@ -14,6 +14,18 @@ abbrev pub append : Contents → Contents → Contents
 append no_more after = after
 append (a_record code values rest) after = a_record code values (append rest after)
 append (a_block id inner rest) after = a_block id inner (append rest after)
+
+-- how many blocks stand in one another at most
+abbrev pub levels : Contents → ℕ
+levels no_more = 0
+levels (a_record code values rest) = levels rest
+levels (a_block id inner rest) = max (suc (levels inner)) (levels rest)
+
+-- No block has the id 0, which is that of the block of abbreviations.
+abbrev pub HasNoBlockZero : Contents → Type 0
+HasNoBlockZero no_more = Unit {0}
+HasNoBlockZero (a_record code values rest) = HasNoBlockZero rest
+HasNoBlockZero (a_block id inner rest) = (id ≢ 0) × HasNoBlockZero inner × HasNoBlockZero rest
 
 -- What each part puts before the rest, one after another.
 abbrev pub in_order : List (Contents → Contents) → Contents

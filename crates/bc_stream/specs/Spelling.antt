@@ -42,10 +42,14 @@ abbrev pub width_in : List Frame → ℕ
 width_in [] = 2
 width_in (frame ∷ frames) = frame.width
 
+-- the open blocks but the innermost
+abbrev pub outer : List Frame → List Frame
+outer [] = []
+outer (frame ∷ frames) = frames
+
 -- the open blocks behind a piece that ends at a place
 abbrev pub frames_after : List Frame → Raw → Place → List Frame
-frames_after [] raw_leave to = []
-frames_after (frame ∷ frames) raw_leave to = frames
+frames_after frames raw_leave to = outer frames
 frames_after frames (raw_enter id new_width words) to = record { id = id; width = new_width; ends = to.at + 32 * words } ∷ frames
 frames_after frames (raw_record code values) to = frames
 

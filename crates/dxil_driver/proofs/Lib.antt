@@ -1,5 +1,6 @@
 pub mod Assembled
 pub mod EmittedFacts
+pub mod EmittedListed
 pub mod EmittedMetadata
 pub mod EmittedWhole
 pub mod Pushes

@@ -11,6 +11,8 @@ use Rattle.dxil_driver.specs.declared.stores.LiteralStore.{LiteralStore}
 use Rattle.dxil_driver.specs.Emitted.{IsEmitted}
 use Rattle.dxil_driver.specs.KernelMetadata.{kernel_resources, kernel_threads}
 use Rattle.dxil_driver.specs.LiteralLane.{literal_stores}
+use Rattle.bc_records.specs.FirstList.{IsListed}
+use Rattle.dxil_driver.proofs.EmittedListed.{emitted_listed}
 use Rattle.dxil_driver.proofs.EmittedMetadata.{no_waves, emitted_metadata}
 use Rattle.dxil_driver.proofs.EmittedWhole.{emitted_whole, picks_within}
 use Rattle.dxil_driver.proofs.StoresLane.{emitted_lane}
@@ -19,6 +21,9 @@ module _ (buffer : Option (List ℕ)) (threads : List ℕ) (stores : List Litera
   pub is_whole : IsWhole m
   is_whole =
       subst IsWhole (sym e.same) (emitted_whole buffer threads e.words e.pairs (picks_within e.words e.pairs stores e.picks))
+
+  pub is_listed : IsListed m
+  is_listed = subst IsListed (sym e.same) (emitted_listed buffer threads e.words e.pairs)
 
   pub has_no_waves : uses_waves m ≡ false
   has_no_waves = ap uses_waves e.same ∙ no_waves buffer threads e.words e.pairs

@@ -3,6 +3,8 @@
 mod body;
 mod constants;
 mod metadata;
+#[cfg(test)]
+mod tests;
 mod types;
 mod words;
 
@@ -11,6 +13,7 @@ ghost use Rattle.lane_core.specs.SameLane.{SameLane};
 ghost use Rattle.ir_core.specs.Metadata.{HasMetadata};
 ghost use Rattle.ir_core.specs.ModuleLane.{module_lane};
 ghost use Rattle.ir_core.specs.Soundness.{IsWhole};
+ghost use Rattle.bc_records.specs.FirstList.{IsListed};
 ghost use Rattle.ir_core.specs.Waves.{uses_waves};
 ghost use Rattle.dxil_driver.specs.Emitted.{IsEmitted};
 ghost use Rattle.dxil_driver.specs.KernelMetadata.{kernel_resources, kernel_threads};
@@ -54,14 +57,16 @@ fn emit_module(
 
 /// The module of a kernel of literal stores.
 ///
-/// It is whole, has the metadata of the kernel and no wave operation, and each of its lanes asks the
-/// stores in order and ends, where stores are there only with a buffer.
+/// It is whole, and its records are among those that are written. It has the metadata of the kernel and
+/// no wave operation. Each of its lanes asks the stores in order and ends, where stores are there only
+/// with a buffer.
 ///
 /// # Errors
 /// `NoMemory` where memory is refused.
 pub fn emit(alloc: Global, form: &FirstForm) -> Result<Module, NoMemory>
     ensures emitted { IfOk result (λ m. IsEmitted form.now.buffer form.now.threads form.now.stores m) }
     ensures whole { IfOk result IsWhole }
+    ensures listed { IfOk result IsListed }
     ensures metadata { IfOk result (λ m. HasMetadata m (kernel_resources form.now.buffer) (kernel_threads form.now.threads) (codes "main")) }
     ensures waves { IfOk result (λ m. uses_waves m ≡ false) }
     ensures lane { IfOk result (λ m. (form.now.buffer ≡ None → form.now.stores ≡ []) → SameLane (literal_stores form.now.stores) (module_lane m)) }

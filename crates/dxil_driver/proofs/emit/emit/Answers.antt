@@ -1,5 +1,5 @@
 use Rattle.std.proofs.lemmas.Result.{IfOk-weaker}
-use Rattle.dxil_driver.proofs.EmittedFacts.{is_whole, has_no_waves, has_lane}
+use Rattle.dxil_driver.proofs.EmittedFacts.{is_whole, is_listed, has_no_waves, has_lane}
 use Rattle.dxil_driver.proofs.emit.emit.Goals as goal
 
 pub returns-clause-emitted : goal.returns-clause-emitted
@@ -17,3 +17,7 @@ returns-clause-waves c =
 pub returns-clause-lane : goal.returns-clause-lane
 returns-clause-lane c =
     IfOk-weaker c.emit_module.result _ _ (has_lane c.args.form.now.buffer c.args.form.now.threads c.args.form.now.stores) (returns-clause-emitted c)
+
+pub returns-clause-listed : goal.returns-clause-listed
+returns-clause-listed c =
+    IfOk-weaker c.emit_module.result _ _ (is_listed c.args.form.now.buffer c.args.form.now.threads c.args.form.now.stores) (returns-clause-emitted c)

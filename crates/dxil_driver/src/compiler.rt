@@ -59,3 +59,6 @@ pub fn compile(alloc: Global, text: &[u8]) -> Result<Bytes, CompileFault>
         }
     }
 }
+
+#[cfg(test)]
+mod tests;

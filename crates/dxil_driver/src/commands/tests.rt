@@ -1,6 +1,6 @@
-//! One run for each way to end that no text is needed for.
+//! One run for each way to end.
 
-use super::{deliver, tool};
+use super::tool;
 use crate::status::Status;
 use base_core::{Bytes, Calls, MemorySink, MemorySource, PlainSource, Source};
 use std::process::Abort;
@@ -91,13 +91,33 @@ fn notes_that_fail_have_a_front_of_the_line(rt: HostRuntime) -> Result<(), Fail>
     Ok(())
 }
 
+/// The text of an empty kernel.
+const EMPTY_KERNEL: &[u8] = b"[numthreads(1,1,1)] void main() {}";
+
 #[test]
 fn an_output_that_fails_has_a_front_of_the_container(rt: HostRuntime) -> Result<(), Fail> {
+    let mut words = Vec::new(rt.alloc());
+    words.push(String::from_str(rt.alloc(), "compile")?)?;
+    let mut input = PlainSource::new(Bytes::from_slice(rt.alloc(), EMPTY_KERNEL)?);
     let mut output = sink(&rt, &[1])?;
     let mut notes = sink(&rt, &[])?;
-    let status = deliver(&mut output, &mut notes, b"DXBC");
+    let status = tool(rt.alloc(), &words, &mut input, &mut output, &mut notes);
     assert_eq!(rt; status, Status::WriteFault);
     assert_eq!(rt; output.written(), b"DXB".as_slice());
     assert_eq!(rt; notes.written(), b"error: write fault\n".as_slice());
+    Ok(())
+}
+
+#[test]
+fn a_kernel_is_compiled(rt: HostRuntime) -> Result<(), Fail> {
+    let mut words = Vec::new(rt.alloc());
+    words.push(String::from_str(rt.alloc(), "compile")?)?;
+    let mut input = PlainSource::new(Bytes::from_slice(rt.alloc(), EMPTY_KERNEL)?);
+    let mut output = MemorySink::new(rt.alloc(), 4096, 4096, Calls::new(rt.alloc()))?;
+    let mut notes = sink(&rt, &[])?;
+    let status = tool(rt.alloc(), &words, &mut input, &mut output, &mut notes);
+    assert_eq!(rt; status, Status::Done);
+    assert!(rt; output.written().len() > 128);
+    assert_eq!(rt; notes.written().len(), 0);
     Ok(())
 }

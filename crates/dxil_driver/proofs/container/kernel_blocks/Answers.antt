@@ -4,12 +4,7 @@ use Rattle.bc_stream.specs.Blocks.{contents_of}
 use Rattle.bc_records.specs.Records.{Recorded}
 use Rattle.dxil_driver.specs.Kernel.{IsKernelOf, RecordsKernel}
 use Rattle.dxil_driver.proofs.Containers.{IfOk-weaker, no_stores}
-use Rattle.dxil_driver.proofs.EmittedListed.{IsEmitted-listed}
 use Rattle.dxil_driver.proofs.container.kernel_blocks.Goals as goal
-
-pub to_blocks-requires-clause-listed : goal.to_blocks-requires-clause-listed
-to_blocks-requires-clause-listed c =
-    IsEmitted-listed c.args.form.now.buffer c.args.form.now.threads c.args.form.now.stores c.in_ok-module.module c.in_ok-module.ensures.emitted
 
 pub returns-clause-records : goal.returns-clause-records
 returns-clause-records c =

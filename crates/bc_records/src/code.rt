@@ -19,6 +19,9 @@ use std::alloc::Global;
 /// Bit 15 of a calling convention: the function type is given.
 const EXPLICIT_TYPE: u64 = 32768;
 
+/// How many operands a call has before its arguments.
+const CALL_FRONT: usize = 4;
+
 /// Differences of value numbers are taken modulo this.
 const MODULUS: u64 = 4294967296;
 
@@ -42,14 +45,12 @@ fn call_operands(
     ensures { IfOk result (λ values. values ≡ 0 ∷ 2 ^ 15 ∷ type_number «module».now function ∷ relative next function ∷ map (relative next) args.now) }
 {
     let ty = u64::from(function_type(module, function));
-    let mut values = Values::from_slice(
-        alloc,
-        &[0, EXPLICIT_TYPE, ty, difference(next, function)],
-    )?;
+    let mut values = Vec::with_capacity(alloc, args.len() + CALL_FRONT)?;
+    values.extend_from_slice(&[0, EXPLICIT_TYPE, ty, difference(next, function)])?;
     for arg in args {
         values.push(difference(next, *arg))?;
     }
-    Ok(values)
+    Values::from_vec(values)
 }
 
 /// Adds the record of a call.

@@ -110,13 +110,7 @@ impl BitWriter {
 
     /// Writes three numbers of the same width, as one.
     #[inline(always)]
-    fn put_three(
-        &mut self,
-        width: u32,
-        first: u64,
-        second: u64,
-        third: u64,
-    ) -> Result<(), NoMemory>
+    fn put_three(&mut self, width: u32, first: u64, second: u64, third: u64) -> Result<(), NoMemory>
         requires width { width + (width + width) ≤ 32 }
         requires first { first < 2 ^ width }
         requires second { second < 2 ^ width }

@@ -1,4 +1,4 @@
-use Rattle.std.proofs.Common.{◌<◌, ◌≤◌, ◌/◌, ◌+◌, ◌^◌, ◌%◌, ◌++◌, ap, ◌∙◌, arith}
+use Rattle.std.proofs.Common.{◌<◌, ◌/◌, ◌+◌, ◌^◌, ◌%◌, ◌++◌, ap, ◌∙◌, arith}
 use Rattle.std.proofs.lemmas.Nat.{one_shl}
 use Rattle.bc_stream.specs.Bits.{low_bits}
 use Rattle.bc_stream.proofs.WroteLemmas.{three_fewer, next_three, rest_of_chunks}

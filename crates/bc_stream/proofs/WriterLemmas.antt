@@ -1,5 +1,5 @@
 -- What the bit writer's fields are worth.
-use Rattle.std.proofs.Common.{◌≡◌, ℕ, ◌+◌, ◌-◌, ◌*◌, ◌/◌, ◌%◌, ◌^◌, ◌<◌, ◌≤◌, List, [], ◌++◌, length, sym, ap, ◌∙◌, subst, arith}
+use Rattle.std.proofs.Common.{◌≡◌, ℕ, ◌+◌, ◌-◌, ◌*◌, ◌/◌, ◌%◌, ◌^◌, ◌<◌, ◌≤◌, List, [], ◌++◌, length, refl, sym, ap, ◌∙◌, subst, arith}
 use Rattle.std.specs.Int.{to_le_bytes, w32}
 use Rattle.std.proofs.lemmas.List.{append_assoc, append-nil, length-append}
 use Rattle.std.proofs.lemmas.Nat.{pow-add, mul-add-lt, shl_whole, shr_below}
@@ -14,6 +14,24 @@ pub both_below : (l n u w : ℕ) → l < 2 ^ u → n < 2 ^ w → l + n * 2 ^ u <
 both_below l n u w h g =
     let place = mul-add-lt n (2 ^ u) l (2 ^ w) g h in
     omega (arith, place, pow-add 2 u w)
+
+-- numbers of one width side by side
+pub two_joined : (w a b m : ℕ) (old new : List ℕ) → a < 2 ^ w → m ≡ a + b * 2 ^ w → new ≡ old ++ low_bits (w + w) m →
+    new ≡ (old ++ low_bits w a) ++ low_bits w b
+two_joined w a b m old new h e is =
+    is ∙ (ap (λ n. old ++ low_bits (w + w) n) e
+    ∙ (ap (λ l. old ++ l) (low_bits-join w w a b h) ∙ sym (append_assoc old (low_bits w a) (low_bits w b))))
+
+pub three_joined : (w a b c m n : ℕ) (old new : List ℕ) → a < 2 ^ w → b < 2 ^ w → m ≡ b + c * 2 ^ w → n ≡ a + m * 2 ^ w → new ≡ old ++ low_bits (w + (w + w)) n →
+    new ≡ ((old ++ low_bits w a) ++ low_bits w b) ++ low_bits w c
+three_joined w a b c m n old new h g e f is =
+    is ∙ (ap (λ x. old ++ low_bits (w + (w + w)) x) f
+    ∙ (ap (λ l. old ++ l) (low_bits-join w (w + w) a m h)
+    ∙ (sym (append_assoc old (low_bits w a) (low_bits (w + w) m))
+    ∙ two_joined w b c m (old ++ low_bits w a) ((old ++ low_bits w a) ++ low_bits (w + w) m) g e refl)))
+
+pub joined_below : (w v a b m : ℕ) → a < 2 ^ w → b < 2 ^ v → m ≡ a + b * 2 ^ w → m < 2 ^ (w + v)
+joined_below w v a b m h g e = subst (λ x. x < 2 ^ (w + v)) (sym e) (both_below a b w v h g)
 
 -- where the bits don't fill a word
 pub put_within : (words old : List ℕ) (u w l n m : ℕ) → l < 2 ^ u → m ≡ n * 2 ^ u → bits_of words ++ low_bits u l ≡ old →

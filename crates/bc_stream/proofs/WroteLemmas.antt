@@ -1,11 +1,11 @@
 -- What was appended to the bits before spells steps and pieces.
-use Rattle.std.proofs.Common.{◌≡◌, ℕ, ◌+◌, ◌-◌, ◌*◌, ◌/◌, ◌%◌, ◌^◌, ◌<◌, ◌≤◌, List, [], ◌∷◌, ◌++◌, length, refl, sym, ap, ◌∙◌, subst, bit_and, arith}
+use Rattle.std.proofs.Common.{◌≡◌, ℕ, ◌+◌, ◌-◌, ◌*◌, ◌/◌, ◌%◌, ◌^◌, ◌<◌, ◌≤◌, List, [], ◌∷◌, ◌++◌, length, refl, sym, ap, ◌∙◌, subst, arith}
 use Rattle.std.specs.List.{All}
 use Rattle.std.specs.Int.{to_le_bytes, w32}
 use Rattle.std.proofs.Math.Nat.{mul_comm, mul-le-mul_left}
 use Rattle.std.proofs.lemmas.List.{append_assoc, append-nil, length-append}
 use Rattle.std.proofs.lemmas.List.Elements.{All-nil, All-cons}
-use Rattle.std.proofs.lemmas.Nat.{shr_split, mod_below, pow_pos, pow_below, div_below, and_mask}
+use Rattle.std.proofs.lemmas.Nat.{shr_split, mod_below, pow_pos, pow_below, div_below}
 use Rattle.bc_stream.specs.Bits.{low_bits, bits_of, Place, Step, Takes, ◌then◌, Fixed, Aligned, chunks_number, chunks_bits, Chunked, Vbr, Vbrs}
 use Rattle.bc_stream.specs.Writing.{place, Wrote}
 use Rattle.bc_stream.proofs.BitLemmas.{low_bits-none, low_bits-more, low_bits-join, low_bits-split, bits_of-append, bits_of-word, length-bits_of, length-low_bits}
@@ -123,11 +123,8 @@ last_chunk unit rest h = record {
     plain : (r p : ℕ) → r ≡ r + 0 * p
     plain r p = omega arith
 
-masked : (rest unit : ℕ) → bit_and rest (2 ^ unit - 1) ≡ rest % 2 ^ unit
-masked rest unit = and_mask rest unit
-
 pub chunk_before : (unit rest : ℕ) (bits : List ℕ) → IsChunks unit (rest / 2 ^ unit) bits →
-    IsChunks unit rest (low_bits (unit + 1) (bit_and rest (2 ^ unit - 1) + 2 ^ unit) ++ bits)
+    IsChunks unit rest (low_bits (unit + 1) (rest % 2 ^ unit + 2 ^ unit) ++ bits)
 chunk_before unit rest bits h = record {
   first = rest % 2 ^ unit;
   more = h.first ∷ h.more;
@@ -145,34 +142,89 @@ chunk_before unit rest bits h = record {
     once : (p : ℕ) → p ≡ 1 * p
     once p = omega arith
 
-    head : low_bits (unit + 1) (bit_and rest (2 ^ unit - 1) + 2 ^ unit) ≡ low_bits unit (rest % 2 ^ unit) ++ 1 ∷ []
-    head =
-        ap (λ n. low_bits (unit + 1) (n + 2 ^ unit)) (masked rest unit)
-        ∙ (ap (λ n. low_bits (unit + 1) (rest % 2 ^ unit + n)) (once (2 ^ unit)) ∙ flagged unit (rest % 2 ^ unit) 1 below (omega arith))
+    head : low_bits (unit + 1) (rest % 2 ^ unit + 2 ^ unit) ≡ low_bits unit (rest % 2 ^ unit) ++ 1 ∷ []
+    head = ap (λ n. low_bits (unit + 1) (rest % 2 ^ unit + n)) (once (2 ^ unit)) ∙ flagged unit (rest % 2 ^ unit) 1 below (omega arith)
 
-pub fewer : (unit rest : ℕ) → 0 < unit → 2 ^ unit ≤ rest → rest / 2 ^ unit < rest
+pub fewer : (unit rest : ℕ) → 0 < unit → 0 < rest → rest / 2 ^ unit < rest
 fewer unit rest h g =
     let two : 2 ≤ 2 ^ unit = pow_below 0 unit h in
     div_below rest (2 ^ unit) rest (pow_pos unit) (omega (arith, mul-le-mul_left rest two, pow_pos unit))
 
+no_more : (unit rest : ℕ) → rest / 2 ^ unit ≤ rest
+no_more unit rest =
+    let one : 1 ≤ 2 ^ unit = pow_pos unit in
+    let below : rest / 2 ^ unit < rest + 1 = div_below rest (2 ^ unit) (rest + 1) (pow_pos unit) (omega (arith, mul-le-mul_left (rest + 1) one)) in
+    omega arith
+
+pub three_fewer : (unit rest : ℕ) → 0 < unit → 2 ^ unit ≤ rest / 2 ^ unit / 2 ^ unit → rest / 2 ^ unit / 2 ^ unit / 2 ^ unit < rest
+three_fewer unit rest h g =
+    let third : 0 < rest / 2 ^ unit / 2 ^ unit = omega (arith, pow_pos unit) in
+    omega (arith, fewer unit (rest / 2 ^ unit / 2 ^ unit) h third, no_more unit rest, no_more unit (rest / 2 ^ unit))
+
+-- Some of a number is written, so many bits are there now, and this is left of it: with the chunks of what is left the
+-- bits will be the number's.
+abbrev pub SoFar : (unit number rest : ℕ) (old now : List ℕ) → Type 0
+SoFar unit number rest old now = (bits : List ℕ) → IsChunks unit rest bits → (whole : List ℕ) × IsChunks unit number whole × (old ++ whole ≡ now ++ bits)
+
+none_so_far : (unit number : ℕ) (old : List ℕ) → SoFar unit number number old old
+none_so_far unit number old bits h = (bits, h, refl)
+
+-- a chunk's bits and those of its flag, where another follows
+abbrev chunk_bits : ℕ → ℕ → List ℕ
+chunk_bits unit rest = low_bits (unit + 1) (rest % 2 ^ unit + 2 ^ unit)
+
 -- where no more chunks follow
-pub end_of_chunks : (unit number rest : ℕ) (old now new : List ℕ) →
-    ((bits : List ℕ) → IsChunks unit rest bits → (whole : List ℕ) × IsChunks unit number whole × (old ++ whole ≡ now ++ bits)) →
+pub end_of_chunks : (unit number rest : ℕ) (old now new : List ℕ) → SoFar unit number rest old now →
     rest < 2 ^ unit → new ≡ now ++ low_bits (unit + 1) rest → Wrote (Chunked unit number) old new
 end_of_chunks unit number rest old now new so_far below is =
     let w = so_far (low_bits (unit + 1) rest) (last_chunk unit rest below) in
     wrote_chunks unit number w.0 old new w.1 (is ∙ sym w.2)
 
 -- where another chunk follows
-pub next_chunk : (unit number rest more : ℕ) (old now new : List ℕ) →
-    ((bits : List ℕ) → IsChunks unit rest bits → (whole : List ℕ) × IsChunks unit number whole × (old ++ whole ≡ now ++ bits)) →
-    more ≡ 2 ^ unit → new ≡ now ++ low_bits (unit + 1) (bit_and rest (more - 1) + more) →
-    (bits : List ℕ) → IsChunks unit (rest / 2 ^ unit) bits → (whole : List ℕ) × IsChunks unit number whole × (old ++ whole ≡ new ++ bits)
-next_chunk unit number rest more old now new so_far power is bits h =
-    let chunk = low_bits (unit + 1) (bit_and rest (2 ^ unit - 1) + 2 ^ unit) in
+pub next_chunk : (unit number rest : ℕ) (old now new : List ℕ) → SoFar unit number rest old now →
+    new ≡ now ++ low_bits (unit + 1) (rest % 2 ^ unit + 2 ^ unit) → SoFar unit number (rest / 2 ^ unit) old new
+next_chunk unit number rest old now new so_far is bits h =
+    let chunk = low_bits (unit + 1) (rest % 2 ^ unit + 2 ^ unit) in
     let w = so_far (chunk ++ bits) (chunk_before unit rest bits h) in
-    let put : new ≡ now ++ chunk = is ∙ ap (λ m. now ++ low_bits (unit + 1) (bit_and rest (m - 1) + m)) power in
-    (w.0, w.1, w.2 ∙ (sym (append_assoc now chunk bits) ∙ ap (λ l. l ++ bits) (sym put)))
+    (w.0, w.1, w.2 ∙ (sym (append_assoc now chunk bits) ∙ ap (λ l. l ++ bits) (sym is)))
+
+-- where three chunks stand before others
+pub next_three : (unit number rest : ℕ) (old now new : List ℕ) → SoFar unit number rest old now →
+    new ≡ ((now ++ chunk_bits unit rest) ++ chunk_bits unit (rest / 2 ^ unit)) ++ chunk_bits unit (rest / 2 ^ unit / 2 ^ unit) →
+    SoFar unit number (rest / 2 ^ unit / 2 ^ unit / 2 ^ unit) old new
+next_three unit number rest old now new so_far is =
+    let one = now ++ chunk_bits unit rest in
+    let two = one ++ chunk_bits unit (rest / 2 ^ unit) in
+    next_chunk unit number (rest / 2 ^ unit / 2 ^ unit) old two new
+    (next_chunk unit number (rest / 2 ^ unit) old one two (next_chunk unit number rest old now one so_far refl) refl) is
+
+-- where what is left is written whole
+pub rest_of_chunks : (unit number rest : ℕ) (old now new : List ℕ) → SoFar unit number rest old now → Wrote (Chunked unit rest) now new →
+    Wrote (Chunked unit number) old new
+rest_of_chunks unit number rest old now new so_far wrote =
+    let read = wrote.spells 0 [] (omega arith) in
+    let bits : wrote.bits ≡ chunks_bits unit read.first read.more =
+    sym (append-nil wrote.bits) ∙ (read.takes.left ∙ append-nil (chunks_bits unit read.first read.more)) in
+    let w = so_far wrote.bits (record { first = read.first; more = read.more; fit = read.fit; makes = read.makes; is = bits }) in
+    wrote_chunks unit number w.0 old new w.1 (wrote.appended ∙ sym w.2)
+
+pub one_chunk : (unit number : ℕ) (old new : List ℕ) → number < 2 ^ unit → new ≡ old ++ low_bits (unit + 1) number → Wrote (Chunked unit number) old new
+one_chunk unit number old new below is = end_of_chunks unit number number old old new (none_so_far unit number old) below is
+
+pub two_chunks : (unit number : ℕ) (old new : List ℕ) → number / 2 ^ unit < 2 ^ unit →
+    new ≡ (old ++ chunk_bits unit number) ++ low_bits (unit + 1) (number / 2 ^ unit) → Wrote (Chunked unit number) old new
+two_chunks unit number old new below is =
+    let one = old ++ chunk_bits unit number in
+    end_of_chunks unit number (number / 2 ^ unit) old one new (next_chunk unit number number old old one (none_so_far unit number old) refl) below is
+
+pub three_chunks : (unit number : ℕ) (old new : List ℕ) → number / 2 ^ unit / 2 ^ unit < 2 ^ unit →
+    new ≡ ((old ++ chunk_bits unit number) ++ chunk_bits unit (number / 2 ^ unit)) ++ low_bits (unit + 1) (number / 2 ^ unit / 2 ^ unit) →
+    Wrote (Chunked unit number) old new
+three_chunks unit number old new below is =
+    let one = old ++ chunk_bits unit number in
+    let two = one ++ chunk_bits unit (number / 2 ^ unit) in
+    end_of_chunks unit number (number / 2 ^ unit / 2 ^ unit) old two new
+    (next_chunk unit number (number / 2 ^ unit) old one two (next_chunk unit number number old old one (none_so_far unit number old) refl) refl) below is
 
 -- ---- numbers one after another
 

@@ -1,6 +1,6 @@
 //! Bits, written a word of 32 bits at a time.
 
-ghost use Rattle.std.specs.Prelude.{◌≡◌, [], ◌++◌, ◌+◌, ◌^◌, ◌%◌, ◌<◌, ◌≤◌, length, OnOk, suc};
+ghost use Rattle.std.specs.Prelude.{◌≡◌, [], ◌++◌, ◌+◌, ◌*◌, ◌/◌, ◌^◌, ◌%◌, ◌<◌, ◌≤◌, length, OnOk, suc};
 ghost use Rattle.bc_stream.specs.Bits.{Aligned, Chunked, bits_of, low_bits};
 ghost use Rattle.bc_stream.specs.Writing.{Wrote};
 
@@ -13,6 +13,9 @@ const WORD_BITS: u32 = 32;
 
 /// One more than the greatest word.
 const WORD_LIMIT: u64 = 1 << 32;
+
+/// Chunks of fewer bits than this are written up to three at a time: with their flags they fit a word.
+const JOINED_UNITS: u32 = 10;
 
 /// The bits that were written, in order. After an error no more is to be written.
 #[derive(Debug, Drop)]
@@ -36,6 +39,27 @@ impl Model for BitWriter {
     ghost invariant = { λ w. (length w.words % 4 ≡ 0) × (w.used < 32) × (w.last < 2 ^ w.used) };
 }
 
+/// Two numbers side by side in one, the first in the lowest `width` bits.
+#[inline(always)]
+fn joined(width: u32, first: u64, second: u64) -> u64
+    requires width { width ≤ 16 }
+    requires first { first < 2 ^ width }
+    requires second { second < 2 ^ 32 }
+    ensures { result ≡ first + second * 2 ^ width }
+{
+    first + (second << width)
+}
+
+/// The lowest chunk of a number with the bit behind it that says that another follows.
+#[inline(always)]
+fn flagged(unit: u32, number: u64) -> u64
+    requires { unit < 32 }
+    ensures { result ≡ number % 2 ^ unit + 2 ^ unit }
+{
+    let more: u64 = 1 << unit;
+    number % more + more
+}
+
 impl BitWriter {
     /// No bits.
     pub fn new(alloc: Global) -> BitWriter
@@ -52,6 +76,7 @@ impl BitWriter {
     ///
     /// # Errors
     /// `NoMemory` where memory is refused, or for more than 2147483647 bytes.
+    #[inline]
     pub fn put(&mut self, width: u32, number: u64) -> Result<(), NoMemory>
         requires width { width ≤ 32 }
         requires fits { number < 2 ^ width }
@@ -71,21 +96,108 @@ impl BitWriter {
         Ok(())
     }
 
+    /// Writes two numbers of the same width, as one.
+    #[inline(always)]
+    fn put_two(&mut self, width: u32, first: u64, second: u64) -> Result<(), NoMemory>
+        requires width { width + width ≤ 32 }
+        requires first { first < 2 ^ width }
+        requires second { second < 2 ^ width }
+        ensures { OnOk result (self.new ≡ (self.old ++ low_bits width first) ++ low_bits width second) }
+    {
+        self.put(width + width, joined(width, first, second))?;
+        Ok(())
+    }
+
+    /// Writes three numbers of the same width, as one.
+    #[inline(always)]
+    fn put_three(&mut self, width: u32, first: u64, second: u64, third: u64) -> Result<(), NoMemory>
+        requires width { width + (width + width) ≤ 32 }
+        requires first { first < 2 ^ width }
+        requires second { second < 2 ^ width }
+        requires third { third < 2 ^ width }
+        ensures { OnOk result (self.new ≡ ((self.old ++ low_bits width first) ++ low_bits width second) ++ low_bits width third) }
+    {
+        let behind = joined(width, second, third);
+        self.put(width + (width + width), joined(width, first, behind))?;
+        Ok(())
+    }
+
+    /// Writes a number in chunks, one at a time.
+    fn put_single_chunks(&mut self, unit: u32, number: u64) -> Result<(), NoMemory>
+        requires { (0 < unit) × (unit < 32) }
+        ensures { OnOk result (Wrote (Chunked unit number) self.old self.new) }
+    {
+        let mut rest = number;
+        while rest >= 1 << unit {
+            self.put(unit + 1, flagged(unit, rest))?;
+            rest >>= unit;
+        }
+        self.put(unit + 1, rest)?;
+        Ok(())
+    }
+
+    /// Writes a number in chunks, up to three at a time.
+    #[inline(always)]
+    fn put_joined_chunks(&mut self, unit: u32, number: u64) -> Result<(), NoMemory>
+        requires { (0 < unit) × (unit < 10) }
+        ensures { OnOk result (Wrote (Chunked unit number) self.old self.new) }
+    {
+        let mut rest = number;
+        while rest >> unit >> unit >= 1 << unit {
+            let second = rest >> unit;
+            let third = second >> unit;
+            self.put_three(
+                unit + 1,
+                flagged(unit, rest),
+                flagged(unit, second),
+                flagged(unit, third),
+            )?;
+            rest = third >> unit;
+        }
+        self.put_last_chunks(unit, rest)?;
+        Ok(())
+    }
+
+    /// Writes a number of at most three chunks.
+    #[inline(always)]
+    fn put_last_chunks(&mut self, unit: u32, number: u64) -> Result<(), NoMemory>
+        requires unit { (0 < unit) × (unit < 10) }
+        requires few { number / 2 ^ unit / 2 ^ unit < 2 ^ unit }
+        ensures { OnOk result (Wrote (Chunked unit number) self.old self.new) }
+    {
+        let more: u64 = 1 << unit;
+        if number < more {
+            self.put(unit + 1, number)?;
+            return Ok(());
+        }
+        let second = number >> unit;
+        if second < more {
+            self.put_two(unit + 1, flagged(unit, number), second)?;
+            return Ok(());
+        }
+        self.put_three(
+            unit + 1,
+            flagged(unit, number),
+            flagged(unit, second),
+            second >> unit,
+        )?;
+        Ok(())
+    }
+
     /// Writes a number in as few chunks of `unit` bits as it needs, each with the bit that says whether another follows.
     ///
     /// # Errors
     /// As `put`.
+    #[inline(always)]
     pub fn put_chunks(&mut self, unit: u32, number: u64) -> Result<(), NoMemory>
         requires { (0 < unit) × (unit < 32) }
         ensures { OnOk result (Wrote (Chunked unit number) self.old self.new) }
     {
-        let more: u64 = 1 << unit;
-        let mut rest = number;
-        while rest >= more {
-            self.put(unit + 1, (rest & (more - 1)) + more)?;
-            rest >>= unit;
+        if unit >= JOINED_UNITS {
+            self.put_single_chunks(unit, number)?;
+            return Ok(());
         }
-        self.put(unit + 1, rest)?;
+        self.put_joined_chunks(unit, number)?;
         Ok(())
     }
 

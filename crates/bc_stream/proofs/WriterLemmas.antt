@@ -30,6 +30,13 @@ three_joined w a b c m n old new h g e f is =
     ∙ (sym (append_assoc old (low_bits w a) (low_bits (w + w) m))
     ∙ two_joined w b c m (old ++ low_bits w a) ((old ++ low_bits w a) ++ low_bits (w + w) m) g e refl)))
 
+pub four_joined : (w a b c d m n : ℕ) (old new : List ℕ) → a < 2 ^ w → c < 2 ^ w → m ≡ a + b * 2 ^ w → n ≡ c + d * 2 ^ w →
+    new ≡ (old ++ low_bits (w + w) m) ++ low_bits (w + w) n →
+    new ≡ (((old ++ low_bits w a) ++ low_bits w b) ++ low_bits w c) ++ low_bits w d
+four_joined w a b c d m n old new h g e f is =
+    two_joined w c d n (old ++ low_bits (w + w) m) new g f is
+    ∙ ap (λ l. (l ++ low_bits w c) ++ low_bits w d) (two_joined w a b m old (old ++ low_bits (w + w) m) h e refl)
+
 pub joined_below : (w v a b m : ℕ) → a < 2 ^ w → b < 2 ^ v → m ≡ a + b * 2 ^ w → m < 2 ^ (w + v)
 joined_below w v a b m h g e = subst (λ x. x < 2 ^ (w + v)) (sym e) (both_below a b w v h g)
 

@@ -156,10 +156,10 @@ no_more unit rest =
     let below : rest / 2 ^ unit < rest + 1 = div_below rest (2 ^ unit) (rest + 1) (pow_pos unit) (omega (arith, mul-le-mul_left (rest + 1) one)) in
     omega arith
 
-pub three_fewer : (unit rest : ℕ) → 0 < unit → 2 ^ unit ≤ rest / 2 ^ unit / 2 ^ unit → rest / 2 ^ unit / 2 ^ unit / 2 ^ unit < rest
-three_fewer unit rest h g =
-    let third : 0 < rest / 2 ^ unit / 2 ^ unit = omega (arith, pow_pos unit) in
-    omega (arith, fewer unit (rest / 2 ^ unit / 2 ^ unit) h third, no_more unit rest, no_more unit (rest / 2 ^ unit))
+pub four_fewer : (unit rest : ℕ) → 0 < unit → 2 ^ unit ≤ rest / 2 ^ unit / 2 ^ unit / 2 ^ unit → rest / 2 ^ unit / 2 ^ unit / 2 ^ unit / 2 ^ unit < rest
+four_fewer unit rest h g =
+    let fourth : 0 < rest / 2 ^ unit / 2 ^ unit / 2 ^ unit = omega (arith, pow_pos unit) in
+    omega (arith, fewer unit (rest / 2 ^ unit / 2 ^ unit / 2 ^ unit) h fourth, no_more unit rest, no_more unit (rest / 2 ^ unit), no_more unit (rest / 2 ^ unit / 2 ^ unit))
 
 -- Some of a number is written, so many bits are there now, and this is left of it: with the chunks of what is left the
 -- bits will be the number's.
@@ -169,9 +169,9 @@ SoFar unit number rest old now = (bits : List ℕ) → IsChunks unit rest bits �
 none_so_far : (unit number : ℕ) (old : List ℕ) → SoFar unit number number old old
 none_so_far unit number old bits h = (bits, h, refl)
 
--- a chunk's bits and those of its flag, where another follows
-abbrev chunk_bits : ℕ → ℕ → List ℕ
-chunk_bits unit rest = low_bits (unit + 1) (rest % 2 ^ unit + 2 ^ unit)
+-- the lowest chunk of what is left, with the flag that another follows
+abbrev pub IsFlagged : (unit rest chunk : ℕ) → Type 0
+IsFlagged unit rest chunk = chunk ≡ rest % 2 ^ unit + 2 ^ unit
 
 -- where no more chunks follow
 pub end_of_chunks : (unit number rest : ℕ) (old now new : List ℕ) → SoFar unit number rest old now →
@@ -181,22 +181,28 @@ end_of_chunks unit number rest old now new so_far below is =
     wrote_chunks unit number w.0 old new w.1 (is ∙ sym w.2)
 
 -- where another chunk follows
-pub next_chunk : (unit number rest : ℕ) (old now new : List ℕ) → SoFar unit number rest old now →
-    new ≡ now ++ low_bits (unit + 1) (rest % 2 ^ unit + 2 ^ unit) → SoFar unit number (rest / 2 ^ unit) old new
-next_chunk unit number rest old now new so_far is bits h =
-    let chunk = low_bits (unit + 1) (rest % 2 ^ unit + 2 ^ unit) in
-    let w = so_far (chunk ++ bits) (chunk_before unit rest bits h) in
-    (w.0, w.1, w.2 ∙ (sym (append_assoc now chunk bits) ∙ ap (λ l. l ++ bits) (sym is)))
+pub next_chunk : (unit number rest chunk : ℕ) (old now new : List ℕ) → SoFar unit number rest old now → IsFlagged unit rest chunk →
+    new ≡ now ++ low_bits (unit + 1) chunk → SoFar unit number (rest / 2 ^ unit) old new
+next_chunk unit number rest chunk old now new so_far flag is bits h =
+    let w = so_far (low_bits (unit + 1) (rest % 2 ^ unit + 2 ^ unit) ++ bits) (chunk_before unit rest bits h) in
+    let put : new ≡ now ++ low_bits (unit + 1) (rest % 2 ^ unit + 2 ^ unit) = is ∙ ap (λ n. now ++ low_bits (unit + 1) n) flag in
+    (w.0, w.1, w.2 ∙ (sym (append_assoc now (low_bits (unit + 1) (rest % 2 ^ unit + 2 ^ unit)) bits) ∙ ap (λ l. l ++ bits) (sym put)))
 
--- where three chunks stand before others
-pub next_three : (unit number rest : ℕ) (old now new : List ℕ) → SoFar unit number rest old now →
-    new ≡ ((now ++ chunk_bits unit rest) ++ chunk_bits unit (rest / 2 ^ unit)) ++ chunk_bits unit (rest / 2 ^ unit / 2 ^ unit) →
-    SoFar unit number (rest / 2 ^ unit / 2 ^ unit / 2 ^ unit) old new
-next_three unit number rest old now new so_far is =
-    let one = now ++ chunk_bits unit rest in
-    let two = one ++ chunk_bits unit (rest / 2 ^ unit) in
-    next_chunk unit number (rest / 2 ^ unit / 2 ^ unit) old two new
-    (next_chunk unit number (rest / 2 ^ unit) old one two (next_chunk unit number rest old now one so_far refl) refl) is
+-- where two chunks stand before others
+next_two : (unit number rest a b : ℕ) (old now new : List ℕ) → SoFar unit number rest old now → IsFlagged unit rest a → IsFlagged unit (rest / 2 ^ unit) b →
+    new ≡ (now ++ low_bits (unit + 1) a) ++ low_bits (unit + 1) b → SoFar unit number (rest / 2 ^ unit / 2 ^ unit) old new
+next_two unit number rest a b old now new so_far f g is =
+    let one = now ++ low_bits (unit + 1) a in
+    next_chunk unit number (rest / 2 ^ unit) b old one new (next_chunk unit number rest a old now one so_far f refl) g is
+
+-- where four do
+pub next_four : (unit number rest a b c d : ℕ) (old now new : List ℕ) → SoFar unit number rest old now →
+    IsFlagged unit rest a → IsFlagged unit (rest / 2 ^ unit) b → IsFlagged unit (rest / 2 ^ unit / 2 ^ unit) c → IsFlagged unit (rest / 2 ^ unit / 2 ^ unit / 2 ^ unit) d →
+    new ≡ (((now ++ low_bits (unit + 1) a) ++ low_bits (unit + 1) b) ++ low_bits (unit + 1) c) ++ low_bits (unit + 1) d →
+    SoFar unit number (rest / 2 ^ unit / 2 ^ unit / 2 ^ unit / 2 ^ unit) old new
+next_four unit number rest a b c d old now new so_far e f g h is =
+    let two = (now ++ low_bits (unit + 1) a) ++ low_bits (unit + 1) b in
+    next_two unit number (rest / 2 ^ unit / 2 ^ unit) c d old two new (next_two unit number rest a b old now two so_far e f refl) g h is
 
 -- where what is left is written whole
 pub rest_of_chunks : (unit number rest : ℕ) (old now new : List ℕ) → SoFar unit number rest old now → Wrote (Chunked unit rest) now new →
@@ -211,20 +217,29 @@ rest_of_chunks unit number rest old now new so_far wrote =
 pub one_chunk : (unit number : ℕ) (old new : List ℕ) → number < 2 ^ unit → new ≡ old ++ low_bits (unit + 1) number → Wrote (Chunked unit number) old new
 one_chunk unit number old new below is = end_of_chunks unit number number old old new (none_so_far unit number old) below is
 
-pub two_chunks : (unit number : ℕ) (old new : List ℕ) → number / 2 ^ unit < 2 ^ unit →
-    new ≡ (old ++ chunk_bits unit number) ++ low_bits (unit + 1) (number / 2 ^ unit) → Wrote (Chunked unit number) old new
-two_chunks unit number old new below is =
-    let one = old ++ chunk_bits unit number in
-    end_of_chunks unit number (number / 2 ^ unit) old one new (next_chunk unit number number old old one (none_so_far unit number old) refl) below is
+pub two_chunks : (unit number a : ℕ) (old new : List ℕ) → number / 2 ^ unit < 2 ^ unit → IsFlagged unit number a →
+    new ≡ (old ++ low_bits (unit + 1) a) ++ low_bits (unit + 1) (number / 2 ^ unit) → Wrote (Chunked unit number) old new
+two_chunks unit number a old new below f is =
+    let one = old ++ low_bits (unit + 1) a in
+    end_of_chunks unit number (number / 2 ^ unit) old one new (next_chunk unit number number a old old one (none_so_far unit number old) f refl) below is
 
-pub three_chunks : (unit number : ℕ) (old new : List ℕ) → number / 2 ^ unit / 2 ^ unit < 2 ^ unit →
-    new ≡ ((old ++ chunk_bits unit number) ++ chunk_bits unit (number / 2 ^ unit)) ++ low_bits (unit + 1) (number / 2 ^ unit / 2 ^ unit) →
+pub three_chunks : (unit number a b : ℕ) (old new : List ℕ) → number / 2 ^ unit / 2 ^ unit < 2 ^ unit →
+    IsFlagged unit number a → IsFlagged unit (number / 2 ^ unit) b →
+    new ≡ ((old ++ low_bits (unit + 1) a) ++ low_bits (unit + 1) b) ++ low_bits (unit + 1) (number / 2 ^ unit / 2 ^ unit) →
     Wrote (Chunked unit number) old new
-three_chunks unit number old new below is =
-    let one = old ++ chunk_bits unit number in
-    let two = one ++ chunk_bits unit (number / 2 ^ unit) in
-    end_of_chunks unit number (number / 2 ^ unit / 2 ^ unit) old two new
-    (next_chunk unit number (number / 2 ^ unit) old one two (next_chunk unit number number old old one (none_so_far unit number old) refl) refl) below is
+three_chunks unit number a b old new below f g is =
+    let two = (old ++ low_bits (unit + 1) a) ++ low_bits (unit + 1) b in
+    end_of_chunks unit number (number / 2 ^ unit / 2 ^ unit) old two new (next_two unit number number a b old old two (none_so_far unit number old) f g refl) below is
+
+pub four_chunks : (unit number a b c : ℕ) (old new : List ℕ) → number / 2 ^ unit / 2 ^ unit / 2 ^ unit < 2 ^ unit →
+    IsFlagged unit number a → IsFlagged unit (number / 2 ^ unit) b → IsFlagged unit (number / 2 ^ unit / 2 ^ unit) c →
+    new ≡ (((old ++ low_bits (unit + 1) a) ++ low_bits (unit + 1) b) ++ low_bits (unit + 1) c) ++ low_bits (unit + 1) (number / 2 ^ unit / 2 ^ unit / 2 ^ unit) →
+    Wrote (Chunked unit number) old new
+four_chunks unit number a b c old new below f g h is =
+    let two = (old ++ low_bits (unit + 1) a) ++ low_bits (unit + 1) b in
+    let three = two ++ low_bits (unit + 1) c in
+    end_of_chunks unit number (number / 2 ^ unit / 2 ^ unit / 2 ^ unit) old three new
+    (next_chunk unit number (number / 2 ^ unit / 2 ^ unit) c old two three (next_two unit number number a b old old two (none_so_far unit number old) f g refl) h refl) below is
 
 -- ---- numbers one after another
 

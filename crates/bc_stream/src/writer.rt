@@ -14,8 +14,8 @@ const WORD_BITS: u32 = 32;
 /// One more than the greatest word.
 const WORD_LIMIT: u64 = 1 << 32;
 
-/// Chunks of fewer bits than this are written up to three at a time: with their flags they fit a word.
-const JOINED_UNITS: u32 = 10;
+/// Chunks of fewer bits than this are written up to four at a time: with their flags they fit a word.
+const JOINED_UNITS: u32 = 8;
 
 /// The bits that were written, in order. After an error no more is to be written.
 #[derive(Debug, Drop)]
@@ -122,6 +122,29 @@ impl BitWriter {
         Ok(())
     }
 
+    /// Writes four numbers of the same width, as one.
+    #[inline(always)]
+    fn put_four(
+        &mut self,
+        width: u32,
+        first: u64,
+        second: u64,
+        third: u64,
+        fourth: u64,
+    ) -> Result<(), NoMemory>
+        requires width { (width + width) + (width + width) ≤ 32 }
+        requires first { first < 2 ^ width }
+        requires second { second < 2 ^ width }
+        requires third { third < 2 ^ width }
+        requires fourth { fourth < 2 ^ width }
+        ensures { OnOk result (self.new ≡ (((self.old ++ low_bits width first) ++ low_bits width second) ++ low_bits width third) ++ low_bits width fourth) }
+    {
+        let front = joined(width, first, second);
+        let behind = joined(width, third, fourth);
+        self.put_two(width + width, front, behind)?;
+        Ok(())
+    }
+
     /// Writes a number in chunks, one at a time.
     fn put_single_chunks(&mut self, unit: u32, number: u64) -> Result<(), NoMemory>
         requires { (0 < unit) × (unit < 32) }
@@ -136,51 +159,57 @@ impl BitWriter {
         Ok(())
     }
 
-    /// Writes a number in chunks, up to three at a time.
+    /// Writes a number in chunks, up to four at a time.
     #[inline(always)]
     fn put_joined_chunks(&mut self, unit: u32, number: u64) -> Result<(), NoMemory>
-        requires { (0 < unit) × (unit < 10) }
+        requires { (0 < unit) × (unit < 8) }
         ensures { OnOk result (Wrote (Chunked unit number) self.old self.new) }
     {
         let mut rest = number;
-        while rest >> unit >> unit >= 1 << unit {
+        while rest >> unit >> unit >> unit >= 1 << unit {
             let second = rest >> unit;
             let third = second >> unit;
-            self.put_three(
+            let fourth = third >> unit;
+            self.put_four(
                 unit + 1,
                 flagged(unit, rest),
                 flagged(unit, second),
                 flagged(unit, third),
+                flagged(unit, fourth),
             )?;
-            rest = third >> unit;
+            rest = fourth >> unit;
         }
         self.put_last_chunks(unit, rest)?;
         Ok(())
     }
 
-    /// Writes a number of at most three chunks.
+    /// Writes a number of at most four chunks.
     #[inline(always)]
     fn put_last_chunks(&mut self, unit: u32, number: u64) -> Result<(), NoMemory>
-        requires unit { (0 < unit) × (unit < 10) }
-        requires few { number / 2 ^ unit / 2 ^ unit < 2 ^ unit }
+        requires unit { (0 < unit) × (unit < 8) }
+        requires few { number / 2 ^ unit / 2 ^ unit / 2 ^ unit < 2 ^ unit }
         ensures { OnOk result (Wrote (Chunked unit number) self.old self.new) }
     {
+        let width = unit + 1;
         let more: u64 = 1 << unit;
         if number < more {
-            self.put(unit + 1, number)?;
+            self.put(width, number)?;
             return Ok(());
         }
+        let first = flagged(unit, number);
         let second = number >> unit;
         if second < more {
-            self.put_two(unit + 1, flagged(unit, number), second)?;
+            self.put_two(width, first, second)?;
             return Ok(());
         }
-        self.put_three(
-            unit + 1,
-            flagged(unit, number),
-            flagged(unit, second),
-            second >> unit,
-        )?;
+        let third = second >> unit;
+        let second = flagged(unit, second);
+        if third < more {
+            self.put_three(width, first, second, third)?;
+            return Ok(());
+        }
+        let fourth = third >> unit;
+        self.put_four(width, first, second, flagged(unit, third), fourth)?;
         Ok(())
     }
 

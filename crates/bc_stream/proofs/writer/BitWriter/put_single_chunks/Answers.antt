@@ -1,6 +1,5 @@
-use Rattle.std.proofs.Common.{◌<◌, ◌+◌, ◌++◌, ap, ◌∙◌, arith}
+use Rattle.std.proofs.Common.{◌<◌, arith}
 use Rattle.std.proofs.lemmas.Nat.{one_shl, pow_pos}
-use Rattle.bc_stream.specs.Bits.{low_bits}
 use Rattle.bc_stream.proofs.WroteLemmas.{fewer, next_chunk, end_of_chunks}
 use Rattle.bc_stream.proofs.writer.BitWriter.put_single_chunks.Goals as goal
 
@@ -11,8 +10,8 @@ loop-rest-smaller c =
 
 pub loop-rest-preserved : goal.loop-rest-preserved
 loop-rest-preserved c = record {
-  so_far = next_chunk c.args.unit c.args.number c.loop-rest.rest c.args.self.now c.loop-rest.self c.put.new.self c.loop-rest.invariant.so_far
-      (c.in_ok-put.ensures ∙ ap (λ n. c.loop-rest.self ++ low_bits (c.args.unit + 1) n) c.flagged.ensures);
+  so_far = next_chunk c.args.unit c.args.number c.loop-rest.rest c.flagged.result c.args.self.now c.loop-rest.self c.put.new.self
+      c.loop-rest.invariant.so_far c.flagged.ensures c.in_ok-put.ensures;
 }
 
 pub returns : goal.returns

@@ -143,20 +143,26 @@ pub record IsTokenList (text : List ℕ) (tokens : List Lexeme) (end : Place) : 
 -- faults
 
 -- here a token begins
-abbrev pub BeginsToken : List ℕ → Type 0
-BeginsToken rest = (kind : TokenKind) × (bytes after : List ℕ) × (rest ≡ bytes ++ after) × IsToken kind bytes after
+pub record BeginsToken (rest : List ℕ) : Type 0 where
+  pub kind : TokenKind
+  pub bytes : List ℕ
+  pub after : List ℕ
+  pub rest-is : rest ≡ bytes ++ after
+  pub token : IsToken kind bytes after
 
 -- here no piece begins
 abbrev pub BeginsNothing : List ℕ → List ℕ → Type 0
 BeginsNothing before rest = (piece : Piece) (after : List ℕ) → rest ≡ bytes_of piece ++ after → ¬ MayStand before piece after
 
 -- here a number begins that is above the greatest one
-abbrev pub BeginsLargeNumber : List ℕ → Type 0
-BeginsLargeNumber rest =
-    (value : ℕ) × (unsigned : Bool) × (bytes after : List ℕ)
-    × (rest ≡ bytes ++ after)
-    × IsToken (Number value unsigned) bytes after
-    × (greatest_number < value)
+pub record BeginsLargeNumber (rest : List ℕ) : Type 0 where
+  pub value : ℕ
+  pub unsigned : Bool
+  pub bytes : List ℕ
+  pub after : List ℕ
+  pub rest-is : rest ≡ bytes ++ after
+  pub token : IsToken (Number value unsigned) bytes after
+  pub large : greatest_number < value
 
 -- the fault that stands behind these bytes and this many tokens, where the text goes on with `rest`
 abbrev pub FaultAt : List ℕ → ℕ → List ℕ → LexFault → Type 0

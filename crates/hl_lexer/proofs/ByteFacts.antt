@@ -18,7 +18,7 @@ class_sort Other = 4
 abbrev pub implies : Bool → Bool → Bool
 implies a c = not a || c
 
-implied : (a c : Bool) → implies a c ≡ true → a ≡ true → c ≡ true
+pub implied : (a c : Bool) → implies a c ≡ true → a ≡ true → c ≡ true
 implied true c h e = h
 implied false c h e = cc
 

@@ -1,8 +1,11 @@
 pub mod ByteFacts
+pub mod ClassFacts
 pub mod CutFacts
 pub mod FormFacts
 pub mod LawFacts
 pub mod Lists
+pub mod MarkFacts
 pub mod NumberFacts
 pub mod PieceFacts
 pub mod TableFacts
+pub mod ValueFacts

@@ -80,7 +80,7 @@ based_first base bytes x digits some e =
     let each : AllPass (λ c. is_digit c base) (48 ∷ x ∷ digits) = subst (AllPass (λ c. is_digit c base)) e some.each in
     All-head (λ c. is_digit c base ≡ true) x digits (All-tail (λ c. is_digit c base ≡ true) 48 (x ∷ digits) each)
 
-octal_or_hexadecimal : (bytes : List ℕ) (x : ℕ) (digits : List ℕ) → AreSomeDigits 8 bytes → bytes ≡ 48 ∷ x ∷ digits → IsBaseByte x → ⊥
+pub octal_or_hexadecimal : (bytes : List ℕ) (x : ℕ) (digits : List ℕ) → AreSomeDigits 8 bytes → bytes ≡ 48 ∷ x ∷ digits → IsBaseByte x → ⊥
 octal_or_hexadecimal bytes x digits some e base =
     both_ways (is_digit x 8) (two_bytes (λ b. is_digit b 8) 120 88 x refl refl base) (based_first 8 bytes x digits some e)
 

@@ -1,11 +1,14 @@
 -- The tables of words and marks.
-use Rattle.std.proofs.Common.{◌≡◌, ◌∙◌, refl, sym, ap, subst, ℕ, ◌+◌, ◌<◌, ◌≤◌, ◌⊎◌, inl, inr, Bool, true, false, ◌&&◌, ◌==◌, List, [], ◌∷◌, Option, None, Some, length, get_or, slice_get, slice_index, arith, nat_le, leb}
+use Rattle.std.proofs.Common.{◌≡◌, ◌∙◌, refl, sym, ap, subst, ℕ, ◌+◌, ◌<◌, ◌≤◌, ◌⊎◌, inl, inr, Bool, true, false, ◌&&◌, ◌==◌, List, [], ◌∷◌, Option, None, Some, length, get_or, slice_get, slice_index, slice_index_or, take, drop, ◌-◌, arith, nat_le, leb}
 use Rattle.std.specs.List.{All, AllPass, list_all}
-use Rattle.std.proofs.lemmas.Bool.{and_parts, eqb-true, leb-true, ltb-true}
+use Rattle.std.specs.Str.{bytes_eq}
+use Rattle.std.proofs.lemmas.Bool.{agree_below_at, and_parts, eqb-true, leb-true, ltb-true}
+use Rattle.std.proofs.lemmas.Option.{get_or_from_slice_get, slice_get-get_or}
+use Rattle.std.proofs.lemmas.Slice.Eq.{bytes_eq-Decides}
 use Rattle.std.proofs.lemmas.List.Sums.{AllPass-from_list_all}
 use Rattle.std.specs.Prelude.{nat_lt}
 use Rattle.hl_lexer.specs.declared.class.Class.{Class}
-use Rattle.hl_lexer.specs.declared.word.TheConstants.{SLOTS}
+use Rattle.hl_lexer.specs.declared.word.TheConstants.{LETTERS, SLOTS, STARTS}
 use Rattle.hl_lexer.specs.Bytes.{is_letter, is_word_byte, is_no_line_feed}
 use Rattle.hl_lexer.specs.Scanning.{class_of, number_in, word_slot}
 use Rattle.hl_lexer.specs.Spellings.{words, marks}
@@ -76,3 +79,37 @@ mark_begins n b bs e = eqb-true (class_sort (class_of b)) 2 (passes_at begins_wi
 
 pub mark_line : (n : ℕ) (bytes : List ℕ) → IsMark n bytes → AllPass is_no_line_feed bytes
 mark_line n bytes e = AllPass-from_list_all is_no_line_feed bytes (passes_at (list_all is_no_line_feed) marks n bytes refl e)
+
+-- where the letters of a word stand
+abbrev start : ℕ → ℕ
+start n = slice_index STARTS n
+
+abbrev letters_stand : ℕ → Bool
+letters_stand n = nat_le (start n) (start (n + 1)) && (nat_le (start (n + 1)) 217 && bytes_eq (take (start (n + 1) - start n) (drop (start n) LETTERS)) (slice_index_or words n []))
+
+stand : (n : ℕ) → n < 35 → letters_stand n ≡ true
+stand n within = agree_below_at letters_stand (λ m. true) 35 n refl within
+
+pub starts_rise : (n : ℕ) → n < 35 → slice_index STARTS n ≤ slice_index STARTS (n + 1)
+starts_rise n within = leb-true (start n) (start (n + 1)) (and_parts _ _ (stand n within)).0
+
+pub starts_within : (n : ℕ) → n < 35 → slice_index STARTS (n + 1) ≤ 217
+starts_within n within = leb-true (start (n + 1)) 217 (and_parts _ _ (and_parts _ _ (stand n within)).1).0
+
+pub letters_are : (n : ℕ) → n < 35 → take (slice_index STARTS (n + 1) - slice_index STARTS n) (drop (slice_index STARTS n) LETTERS) ≡ slice_index_or words n []
+letters_are n within = (bytes_eq-Decides _ _).0 (and_parts _ _ (and_parts _ _ (stand n within)).1).1
+
+-- a word stands at its number
+pub word_at : (n : ℕ) (bytes : List ℕ) → n < 35 → slice_index_or words n [] ≡ bytes → IsWord n bytes
+word_at n bytes within e = slice_get-get_or words n [] within ∙ ap Some e
+
+pub word_is : (n : ℕ) (bytes : List ℕ) → IsWord n bytes → slice_index_or words n [] ≡ bytes
+word_is n bytes e = get_or_from_slice_get words n bytes [] e
+
+pub word_long : (n : ℕ) (bytes : List ℕ) → length bytes ≡ 0 → IsWord n bytes → ⊥
+word_long n [] e word = word_some n word
+word_long n (b ∷ bs) e word = omega arith
+
+-- the number in the slot of a word is the word's
+pub word_in_slot : (n number slot : ℕ) (bytes : List ℕ) → number ≡ slice_index SLOTS slot → slot ≡ word_slot bytes → IsWord n bytes → number ≡ n
+word_in_slot n number slot bytes e f word = e ∙ (ap (slice_index SLOTS) f ∙ word_stands n bytes word)

@@ -1,6 +1,6 @@
 //! The classes of bytes: what a piece of a text can be that begins with a byte.
 
-ghost use Rattle.std.specs.Prelude.{◌≡◌};
+ghost use Rattle.std.specs.Prelude.{◌≡◌, slice_index};
 ghost use Rattle.hl_lexer.specs.Scanning.{class_of};
 
 /// What a piece of a text can be that begins with a byte.
@@ -22,13 +22,25 @@ pub(crate) enum Class {
 pub(crate) fn class_of(byte: u8) -> Class
     ensures { result ≡ class_of byte }
 {
-    match CLASSES[byte as usize] {
-        OTHER => Class::Other,
-        SPACE => Class::Space,
-        LETTER => Class::Letter,
-        DIGIT => Class::Digit,
-        mark => Class::Mark(mark),
+    let code = code_of(byte);
+    if code == LETTER {
+        Class::Letter
+    } else if code == SPACE {
+        Class::Space
+    } else if code == DIGIT {
+        Class::Digit
+    } else if code == OTHER {
+        Class::Other
+    } else {
+        Class::Mark(code)
     }
+}
+
+/// The class of a byte as the table has it.
+fn code_of(byte: u8) -> u8
+    ensures { result ≡ slice_index CLASSES byte }
+{
+    CLASSES[byte as usize]
 }
 
 const OTHER: u8 = 255;

@@ -48,17 +48,53 @@ pub(crate) fn longest_mark(single: u8, rest: &[u8]) -> Found
     ensures mark { IsMark result.number (take result.length rest.now) }
     ensures longest { (number : ℕ) (bytes after : List ℕ) → rest.now ≡ bytes ++ after → IsMark number bytes → length bytes ≤ result.length }
 {
-    let twice = byte_at(rest, 1) == rest[0];
-    if twice && byte_at(rest, 2) == b'=' && twice_with_equals(single) != NO_MARK {
-        return Found { number: twice_with_equals(single), length: 3 };
+    let second = byte_at(rest, 1);
+    let three = mark_of_three(single, rest[0], second, byte_at(rest, 2));
+    if three != NO_MARK {
+        return Found {
+            number: three,
+            length: 3,
+        };
     }
-    if twice && twice_of(single) != NO_MARK {
-        return Found { number: twice_of(single), length: 2 };
+    let two = mark_of_two(single, rest[0], second);
+    if two != NO_MARK {
+        return Found {
+            number: two,
+            length: 2,
+        };
     }
-    if byte_at(rest, 1) == b'=' && with_equals(single) != NO_MARK {
-        return Found { number: with_equals(single), length: 2 };
+    Found {
+        number: single,
+        length: 1,
     }
-    Found { number: single, length: 1 }
+}
+
+/// The mark of two bytes, of which the first alone is the mark `single`, or `NO_MARK`.
+fn mark_of_two(single: u8, first: u8, second: u8) -> u8
+    requires { class_of first ≡ Mark single }
+    ensures { result ≡ number_or_none (first ∷ second ∷ []) }
+{
+    if second == b'=' {
+        with_equals(single)
+    } else if second == first {
+        twice_of(single)
+    } else {
+        NO_MARK
+    }
+}
+
+/// The mark of three bytes, of which the first alone is the mark `single`, or `NO_MARK`.
+fn mark_of_three(single: u8, first: u8, second: u8, third: u8) -> u8
+    requires { class_of first ≡ Mark single }
+    ensures { result ≡ number_or_none (first ∷ second ∷ third ∷ []) }
+{
+    if third != b'=' {
+        return NO_MARK;
+    }
+    if second != first {
+        return NO_MARK;
+    }
+    twice_with_equals(single)
 }
 
 /// The mark of a byte twice, by the mark of the byte, or `NO_MARK`.

@@ -14,43 +14,49 @@ const LONGEST_WORD: usize = 19;
 /// How many slots there are.
 const SLOT_COUNT: usize = 128;
 
-/// The spelling of each word.
-static WORDS: [&[u8]; WORD_COUNT] = [
-    b"void",
-    b"bool",
-    b"int",
-    b"uint",
-    b"bool2",
-    b"bool3",
-    b"bool4",
-    b"int2",
-    b"int3",
-    b"int4",
-    b"uint2",
-    b"uint3",
-    b"uint4",
-    b"struct",
-    b"static",
-    b"const",
-    b"groupshared",
-    b"in",
-    b"out",
-    b"inout",
-    b"if",
-    b"else",
-    b"for",
-    b"while",
-    b"do",
-    b"break",
-    b"continue",
-    b"return",
-    b"true",
-    b"false",
-    b"register",
-    b"ByteAddressBuffer",
-    b"RWByteAddressBuffer",
-    b"StructuredBuffer",
-    b"RWStructuredBuffer",
+/// The letters of all words, one after the other.
+static LETTERS: [u8; 217] = *b"\
+    void\
+    bool\
+    int\
+    uint\
+    bool2\
+    bool3\
+    bool4\
+    int2\
+    int3\
+    int4\
+    uint2\
+    uint3\
+    uint4\
+    struct\
+    static\
+    const\
+    groupshared\
+    in\
+    out\
+    inout\
+    if\
+    else\
+    for\
+    while\
+    do\
+    break\
+    continue\
+    return\
+    true\
+    false\
+    register\
+    ByteAddressBuffer\
+    RWByteAddressBuffer\
+    StructuredBuffer\
+    RWStructuredBuffer";
+
+/// Where the letters of each word begin, and at the end where those of the last one end.
+static STARTS: [u8; WORD_COUNT + 1] = [
+    0, 4, 8, 11, 15, 20, 25, 30, 34, 38, 42, 47, 52, 57, 63, 69,
+    74, 85, 87, 90, 95, 97, 101, 104, 109, 111, 116, 124, 130, 134, 139, 147,
+    164, 183, 199, 217,
 ];
 
 /// The number of the word that has a slot, or 255 where none has.
@@ -69,11 +75,17 @@ static SLOTS: [u8; SLOT_COUNT] = [
 pub(crate) fn word_number(text: &[u8]) -> Option<u8>
     ensures { MatchOption result ((number : ℕ) → ¬ IsWord number text.now) (λ number. IsWord number text.now) }
 {
-    if text.is_empty() || text.len() > LONGEST_WORD {
+    if text.is_empty() {
+        return None;
+    }
+    if text.len() > LONGEST_WORD {
         return None;
     }
     let number = word_in(slot(text));
-    if (number as usize) < WORD_COUNT && spelling(number) == text {
+    if number as usize >= WORD_COUNT {
+        return None;
+    }
+    if spelling(number) == text {
         Some(number)
     } else {
         None
@@ -104,5 +116,22 @@ fn spelling(number: u8) -> &'static [u8]
     requires { number < 35 }
     ensures { result.now ≡ slice_index_or words number [] }
 {
-    WORDS[number as usize]
+    let start = start_of(number as usize);
+    let end = start_of(number as usize + 1);
+    &letters()[start..end]
+}
+
+/// The letters of all words.
+fn letters() -> &'static [u8]
+    ensures { result.now ≡ LETTERS }
+{
+    &LETTERS
+}
+
+/// Where the letters of a word begin.
+fn start_of(number: usize) -> usize
+    requires { number ≤ 35 }
+    ensures { result ≡ slice_index STARTS number }
+{
+    STARTS[number] as usize
 }

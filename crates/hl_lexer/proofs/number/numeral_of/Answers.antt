@@ -1,0 +1,5 @@
+use Rattle.hl_lexer.proofs.ValueFacts.{no_numeral}
+use Rattle.hl_lexer.proofs.number.numeral_of.Goals as goal
+
+pub returns-in-None : goal.returns-in-None
+returns-in-None c = no_numeral c.args.text.now c.split_suffix-unsigned.result.0.now c.split_suffix-unsigned.result.1 c.split_suffix-unsigned.ensures c.in-None.ensures

@@ -2,10 +2,12 @@ pub mod ByteFacts
 pub mod ClassFacts
 pub mod CutFacts
 pub mod FormFacts
+pub mod FrontFacts
 pub mod LawFacts
 pub mod Lists
 pub mod MarkFacts
 pub mod NumberFacts
 pub mod PieceFacts
+pub mod SpaceFacts
 pub mod TableFacts
 pub mod ValueFacts

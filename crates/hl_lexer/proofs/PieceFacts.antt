@@ -14,7 +14,7 @@ abbrev pub Starts : ℕ → List ℕ → Type 0
 Starts sort [] = ⊥
 Starts sort (b ∷ bs) = class_sort (class_of b) ≡ sort
 
-starts_once : (m n : ℕ) (text : List ℕ) → Starts m text → Starts n text → m ≡ n
+pub starts_once : (m n : ℕ) (text : List ℕ) → Starts m text → Starts n text → m ≡ n
 starts_once m n [] h g = absurd h
 starts_once m n (b ∷ bs) h g = sym h ∙ g
 

@@ -71,6 +71,10 @@ SplitsSuffix bytes digits false =
 
 -- comments
 
+-- `*/` stands at an index
+abbrev pub ClosesAt : List ℕ → ℕ → Type 0
+ClosesAt bytes index = (slice_index bytes index ≡ 42) × (slice_index bytes (index + 1) ≡ 47)
+
 -- `*/` stands nowhere
 abbrev pub NoClosing : List ℕ → Type 0
 NoClosing bytes = (front back : List ℕ) → bytes ≡ front ++ 42 ∷ 47 ∷ back → ⊥

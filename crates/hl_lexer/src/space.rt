@@ -1,9 +1,9 @@
 //! Comments.
 
-ghost use Rattle.std.specs.Prelude.{◌≡◌, ◌≤◌, length, take, drop, slice_index, MatchOption};
+ghost use Rattle.std.specs.Prelude.{◌≡◌, ◌<◌, ◌≤◌, ◌↔◌, IsTrue, length, take, drop, slice_index, MatchOption};
 ghost use Rattle.std.specs.List.{AllPass};
 ghost use Rattle.hl_lexer.specs.Bytes.{Ends, is_no_line_feed};
-ghost use Rattle.hl_lexer.specs.Scanning.{CommentIs, FirstClosing, NoClosing};
+ghost use Rattle.hl_lexer.specs.Scanning.{ClosesAt, CommentIs, FirstClosing, NoClosing};
 
 /// What comment a text begins with.
 #[derive(Clone, Copy, Debug, PartialEq, Eq)]
@@ -23,13 +23,16 @@ pub(crate) fn comment_of(rest: &[u8]) -> Comment
     if byte_at(rest, 0) != b'/' {
         return Comment::Absent;
     }
-    match byte_at(rest, 1) {
-        b'/' => Comment::Closed(2 + line_length(&rest[2..])),
-        b'*' => match closing(&rest[2..]) {
-            Some(length) => Comment::Closed(2 + length + 2),
-            None => Comment::Unclosed,
-        },
-        _ => Comment::Absent,
+    let second = byte_at(rest, 1);
+    if second == b'/' {
+        return Comment::Closed(2 + line_length(&rest[2..]));
+    }
+    if second != b'*' {
+        return Comment::Absent;
+    }
+    match closing(&rest[2..]) {
+        Some(length) => Comment::Closed(2 + length + 2),
+        None => Comment::Unclosed,
     }
 }
 
@@ -58,12 +61,18 @@ fn line_length(bytes: &[u8]) -> usize
 fn closing(bytes: &[u8]) -> Option<usize>
     ensures { MatchOption result (NoClosing bytes.now) (FirstClosing bytes.now) }
 {
-    let mut star = false;
-    for (index, byte) in bytes.iter().enumerate() {
-        if star && *byte == b'/' {
-            return Some(index - 1);
+    for index in 0..bytes.len() {
+        if is_closing(bytes, index) {
+            return Some(index);
         }
-        star = *byte == b'*';
     }
     None
+}
+
+/// Whether `*/` stands at an index.
+fn is_closing(bytes: &[u8], index: usize) -> bool
+    requires { index < length bytes.now }
+    ensures { IsTrue result ↔ ClosesAt bytes.now index }
+{
+    bytes[index] == b'*' && byte_at(bytes, index + 1) == b'/'
 }

@@ -1,3 +1,4 @@
+pub mod AnswerFacts
 pub mod ByteFacts
 pub mod ClassFacts
 pub mod CutFacts
@@ -8,6 +9,8 @@ pub mod Lists
 pub mod MarkFacts
 pub mod NumberFacts
 pub mod PieceFacts
+pub mod PlaceFacts
+pub mod ReadFacts
 pub mod SpaceFacts
 pub mod TableFacts
 pub mod ValueFacts

@@ -4,7 +4,7 @@ ghost use Rattle.std.specs.Prelude.{◌≡◌, ◌+◌, ◌^◌, ◌<◌, ◌≤
 ghost use Rattle.base_core.specs.declared.place.Place.{Place};
 ghost use Rattle.hl_lexer.specs.declared.fault.LexFault.TheVariants.{Memory};
 ghost use Rattle.hl_lexer.specs.declared.fault.LexFault.{LexFault};
-ghost use Rattle.hl_lexer.specs.Reading.{GivesTokens, HasRead, OrderMarkIs, lexemes_of, place_past};
+ghost use Rattle.hl_lexer.specs.Reading.{GivesTokens, HasRead, OrderMarkIs, lexemes_of, next_place, place_past};
 ghost use Rattle.hl_lexer.specs.Scanning.{HasSpace, HasToken};
 ghost use Rattle.hl_lexer.specs.Tokens.{BeginsLargeNumber, IsFirstFault, IsTokenList, Lexeme, most_tokens};
 
@@ -185,12 +185,26 @@ fn past(place: Place, bytes: &[u8]) -> Place
 {
     let mut place = place;
     for byte in bytes {
-        if *byte == b'\n' {
-            place.line += 1;
-            place.column = 1;
-        } else {
-            place.column += 1;
-        }
+        place = next(place, *byte);
     }
     place
+}
+
+/// The place behind a byte.
+fn next(place: Place, byte: u8) -> Place
+    requires line { place.line + 1 < 2 ^ 32 }
+    requires column { place.column + 1 < 2 ^ 32 }
+    ensures { result ≡ next_place place byte }
+{
+    if byte == b'\n' {
+        Place {
+            line: place.line + 1,
+            column: 1,
+        }
+    } else {
+        Place {
+            line: place.line,
+            column: place.column + 1,
+        }
+    }
 }

@@ -1,5 +1,5 @@
 -- An answer that is right wherever it says something is the only right one.
-use Rattle.std.proofs.Common.{◌≡◌, ◌∙◌, sym, ap, ℕ, ◌≤◌, ◌⊎◌, inl, inr, List, Result, Ok, Err, IfOk, IfErr, length}
+use Rattle.std.proofs.Common.{◌≡◌, ap, ℕ, ◌≤◌, ◌⊎◌, inl, inr, List, Result, Ok, Err, IfOk, IfErr, length}
 use Rattle.base_core.specs.declared.place.Place.{Place}
 use Rattle.hl_lexer.specs.declared.fault.LexFault.{LexFault}
 use Rattle.hl_lexer.specs.declared.fault.LexFault.TheVariants.{BadByte, NumberTooLarge, TooManyTokens, Memory}

@@ -1,7 +1,7 @@
 -- What the tests of bytes say of each other: each fact is tried at all bytes.
-use Rattle.std.proofs.Common.{◌≡◌, ◌∙◌, refl, sym, ap, subst, ℕ, ◌+◌, ◌<◌, ◌≤◌, ◌⊎◌, ⊎_elim, inl, inr, Bool, true, false, not, ◌&&◌, ◌||◌, ◌==◌, cond, List, ltb, leb, eqb, arith, nat_lt}
+use Rattle.std.proofs.Common.{◌≡◌, refl, ℕ, ◌<◌, ◌≤◌, ⊎_elim, Bool, true, false, not, ◌&&◌, ◌||◌, ◌==◌, leb, arith}
 use Rattle.std.specs.Char.{digit_value, is_ascii_alphabetic, is_ascii_digit, is_digit}
-use Rattle.std.proofs.lemmas.Bool.{agree_below, agree_below_at, and_parts, cases_lt, eqb-true, leb-true, le-ltb, ltb-true, or_cases, cond-true}
+use Rattle.std.proofs.lemmas.Bool.{agree_below, agree_below_at, and_parts, cases_lt, eqb-true, leb-true, le-ltb, ltb-true, or_cases}
 use Rattle.hl_lexer.specs.declared.class.Class.{Class}
 use Rattle.hl_lexer.specs.declared.class.Class.TheVariants.{Other, Space, Letter, Digit, Mark}
 use Rattle.hl_lexer.specs.Bytes.{is_letter, is_word_byte, is_line_feed, is_no_line_feed, is_space_byte}

@@ -1,5 +1,5 @@
 -- The table of classes.
-use Rattle.std.proofs.Common.{◌≡◌, ◌≢◌, ◌∙◌, refl, sym, ap, subst, ℕ, ◌<◌, Bool, true, false, ◌==◌, cond, slice_index, arith}
+use Rattle.std.proofs.Common.{◌≡◌, ◌≢◌, ◌∙◌, refl, ap, ℕ, ◌<◌, Bool, true, false, ◌==◌, cond, slice_index}
 use Rattle.std.proofs.lemmas.Bool.{agree_below_at, eqb-true, ne_eqb}
 use Rattle.hl_lexer.specs.declared.class.Class.{Class}
 use Rattle.hl_lexer.specs.declared.class.Class.TheVariants.{Other, Space, Letter, Digit, Mark}

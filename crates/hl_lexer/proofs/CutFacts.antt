@@ -1,14 +1,10 @@
 -- Two cuts of one text go alike as far as both go.
-use Rattle.std.proofs.Common.{◌≡◌, ◌∙◌, refl, sym, ap, subst, ℕ, ◌+◌, ◌<◌, ◌≤◌, ◌⊎◌, inl, inr, ⊎_elim, Bool, List, [], ◌∷◌, ◌++◌, length, flat_map, arith, append_assoc, append-nil, length-append}
-use Rattle.std.proofs.lemmas.List.{append_cancel_right}
-use Rattle.base_core.specs.declared.place.Place.{Place}
+use Rattle.std.proofs.Common.{◌≡◌, ◌∙◌, refl, sym, ap, subst, ℕ, ◌+◌, ◌≤◌, ◌⊎◌, inl, inr, ⊎_elim, List, [], ◌∷◌, ◌++◌, length, flat_map, arith, append_assoc, append-nil, length-append}
 use Rattle.hl_lexer.specs.declared.fault.LexFault.{LexFault}
 use Rattle.hl_lexer.specs.declared.fault.LexFault.TheVariants.{BadByte, NumberTooLarge, TooManyTokens, Memory}
-use Rattle.hl_lexer.specs.declared.token.TokenKind.{TokenKind}
 use Rattle.hl_lexer.specs.declared.token.TokenKind.TheVariants.{Number}
 use Rattle.hl_lexer.specs.Numbers.{greatest_number}
-use Rattle.hl_lexer.specs.Laws.{AtMostOneFault, AtMostOneTokenList, FaultHasNoTokenList}
-use Rattle.hl_lexer.specs.Tokens.{BeginsLargeNumber, BeginsNothing, BeginsToken, FaultAt, HasRoom, IsCut, IsFirstFault, IsToken, IsTokenList, Lexeme, MayStand, Piece, PieceHasRoom, a_space, a_token, bytes_of, lexemes, most_tokens, order_mark, place_after}
+use Rattle.hl_lexer.specs.Tokens.{BeginsLargeNumber, BeginsNothing, BeginsToken, FaultAt, IsCut, MayStand, Piece, PieceHasRoom, a_space, a_token, bytes_of, lexemes, most_tokens, order_mark, place_after}
 use Rattle.hl_lexer.proofs.PieceFacts.{one_piece, piece_some}
 
 -- the bytes of pieces

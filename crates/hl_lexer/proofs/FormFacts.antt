@@ -1,5 +1,5 @@
 -- The forms of tokens: what they begin with, and that bytes have at most one.
-use Rattle.std.proofs.Common.{◌≡◌, ◌∙◌, refl, sym, ap, ap₂, subst, ℕ, ◌+◌, ◌<◌, ◌≤◌, ◌⊎◌, inl, inr, ⊎_elim, Bool, true, false, List, [], ◌∷◌, ◌++◌, Option, None, Some, length, slice_get, arith}
+use Rattle.std.proofs.Common.{◌≡◌, ◌∙◌, refl, sym, ap, ap₂, subst, ℕ, ◌<◌, true, List, [], ◌∷◌, ◌++◌, Option, Some, arith}
 use Rattle.std.specs.List.{AllPass}
 use Rattle.std.proofs.lemmas.Bool.{or_left}
 use Rattle.std.proofs.lemmas.List.Elements.{All-cons, All-weaker}
@@ -7,7 +7,7 @@ use Rattle.hl_lexer.specs.declared.token.TokenKind.{TokenKind}
 use Rattle.hl_lexer.specs.declared.token.TokenKind.TheVariants.{Name, Word, Number, Mark}
 use Rattle.hl_lexer.specs.Bytes.{is_letter, is_word_byte, is_no_line_feed}
 use Rattle.hl_lexer.specs.Scanning.{class_of}
-use Rattle.hl_lexer.specs.Tokens.{IsForm, IsMark, IsName, IsToken, IsWord}
+use Rattle.hl_lexer.specs.Tokens.{IsForm, IsName, IsToken, IsWord}
 use Rattle.hl_lexer.proofs.ByteFacts.{class_sort, digit_sort, letter_sort, on_line}
 use Rattle.hl_lexer.proofs.Lists.{split_same}
 use Rattle.hl_lexer.proofs.NumberFacts.{number_begins, number_run, number_some, one_number}

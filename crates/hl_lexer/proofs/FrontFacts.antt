@@ -1,5 +1,5 @@
 -- The piece at the front of a text, as its first byte says.
-use Rattle.std.proofs.Common.{◌≡◌, ◌≢◌, ◌∙◌, refl, sym, ap, subst, ℕ, zero, suc, ◌+◌, ◌-◌, ◌<◌, ◌≤◌, ◌⊎◌, inl, inr, ⊎_elim, Bool, true, false, cond, List, [], ◌∷◌, ◌++◌, Option, None, Some, length, get_or, slice_index, take, drop, arith, length-take, take-append-drop}
+use Rattle.std.proofs.Common.{◌≡◌, ◌≢◌, ◌∙◌, refl, sym, ap, subst, ℕ, zero, suc, ◌<◌, ◌≤◌, ⊎_elim, Bool, true, false, cond, List, [], ◌∷◌, ◌++◌, Option, None, Some, length, slice_index, take, drop, arith, length-take, take-append-drop}
 use Rattle.std.specs.Char.{is_ascii_digit}
 use Rattle.std.specs.List.{AllPass}
 use Rattle.std.proofs.lemmas.Bool.{both_ways, or_left, or_right}
@@ -9,10 +9,10 @@ use Rattle.hl_lexer.specs.declared.class.Class.TheVariants.{Other, Space, Letter
 use Rattle.hl_lexer.specs.declared.token.TokenKind.{TokenKind}
 use Rattle.hl_lexer.specs.declared.token.TokenKind.TheVariants as kinds
 use Rattle.hl_lexer.specs.Bytes.{Ends, is_letter, is_space_byte, is_word_byte}
-use Rattle.hl_lexer.specs.Numbers.{IsNumber, greatest_number}
+use Rattle.hl_lexer.specs.Numbers.{IsNumber}
 use Rattle.hl_lexer.specs.Scanning.{BeginsNoSpace, BeginsNoToken, HasSpace, HasToken, capped, class_of, mark_class, number_in}
 use Rattle.hl_lexer.specs.Spellings.{marks}
-use Rattle.hl_lexer.specs.Tokens.{BeginsComment, BeginsLargeNumber, IsForm, IsMark, IsName, IsSpace, IsToken, IsWord, a_byte}
+use Rattle.hl_lexer.specs.Tokens.{BeginsComment, BeginsLargeNumber, IsForm, IsMark, IsName, IsToken, IsWord, a_byte}
 use Rattle.hl_lexer.proofs.ByteFacts.{class_sort}
 use Rattle.hl_lexer.proofs.FormFacts.{form_begins, form_run, form_some, kind_sort, kind_sort_small}
 use Rattle.hl_lexer.proofs.Lists.{run_longest, run_once}
@@ -79,9 +79,10 @@ other_kind sort rest kind bytes after starts e token = sym (starts_once sort (ki
 
 pub other_nothing : (rest : List ℕ) → 0 < length rest → class_of (slice_index rest 0) ≡ Other → BeginsNoSpace rest × BeginsNoToken rest
 other_nothing rest some e =
-    let starts = starts_with_class rest Other some e in
-    (no_space 4 rest starts (λ h. omega (arith, h)) (λ h. omega (arith, h)),
-    λ kind bytes after f token. let same = other_kind 4 rest kind bytes after starts f token in omega (arith, kind_sort_small kind))
+    let starts = starts_with_class rest Other some e in (
+      no_space 4 rest starts (λ h. omega (arith, h)) (λ h. omega (arith, h)),
+      λ kind bytes after f token. let same = other_kind 4 rest kind bytes after starts f token in omega (arith, kind_sort_small kind),
+    )
 
 pub comment_nothing : (rest : List ℕ) → BeginsComment rest → BeginsNoToken rest
 comment_nothing rest comment kind bytes after e token = token.no_comment (subst BeginsComment e comment)
@@ -198,11 +199,12 @@ number_of_run rest n (kinds.Number value unsigned) bytes after run sort e form =
 
 pub no_number : (rest : List ℕ) (n : ℕ) → 0 < length rest → class_of (slice_index rest 0) ≡ Digit → RunIs rest n → ((value : ℕ) (unsigned : Bool) → ¬ IsNumber (take n rest) value unsigned) → BeginsNoSpace rest × BeginsNoToken rest
 no_number rest n some e run none =
-    let starts = starts_with_class rest Digit some e in
-    (no_space 1 rest starts (λ h. omega (arith, h)) (λ h. omega (arith, h)),
-    λ kind bytes after f token.
-        let found = number_of_run rest n kind bytes after run (other_kind 1 rest kind bytes after starts f token) f token.form in
-        none found.0 found.1 found.2)
+    let starts = starts_with_class rest Digit some e in (
+      no_space 1 rest starts (λ h. omega (arith, h)) (λ h. omega (arith, h)),
+      λ kind bytes after f token.
+          let found = number_of_run rest n kind bytes after run (other_kind 1 rest kind bytes after starts f token) f token.form in
+          none found.0 found.1 found.2,
+    )
 
 -- marks
 

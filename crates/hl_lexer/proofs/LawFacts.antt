@@ -1,10 +1,9 @@
 -- The laws of tokens.
-use Rattle.std.proofs.Common.{◌≡◌, ◌∙◌, refl, sym, ap, subst, ℕ, ◌+◌, ◌<◌, ◌≤◌, ◌⊎◌, inl, inr, ⊎_elim, Bool, List, [], ◌∷◌, ◌++◌, length, arith, append_assoc, append-nil, length-append}
+use Rattle.std.proofs.Common.{◌≡◌, ◌∙◌, refl, sym, ap, subst, ℕ, ◌≤◌, ⊎_elim, List, [], ◌∷◌, ◌++◌, length, arith, append-nil, length-append}
 use Rattle.std.proofs.lemmas.List.{append_cancel_right}
-use Rattle.base_core.specs.declared.place.Place.{Place}
 use Rattle.hl_lexer.specs.declared.fault.LexFault.{LexFault}
 use Rattle.hl_lexer.specs.Laws.{AtMostOneFault, AtMostOneTokenList, FaultHasNoTokenList}
-use Rattle.hl_lexer.specs.Tokens.{FaultAt, IsCut, IsFirstFault, IsTokenList, Lexeme, Piece, lexemes, most_tokens}
+use Rattle.hl_lexer.specs.Tokens.{FaultAt, IsCut, IsFirstFault, Piece, lexemes, most_tokens}
 use Rattle.hl_lexer.proofs.CutFacts.{GoesOn, cut_text, cuts_meet, end_stops, fault_some, fault_stops, joined, length-lexemes-cons, lexemes-append, one_fault_here}
 
 -- what stands behind a whole cut is nothing
@@ -41,11 +40,14 @@ fault_has_no_token_list text tokens end fault h g within = ⊎_elim fault_furthe
   where
     at_end : h.rest ≡ [] → ⊥
     at_end e = fault_some (joined h.pieces) (length (lexemes [] h.pieces)) fault (subst (λ bs. FaultAt (joined h.pieces) (length (lexemes [] h.pieces)) bs fault) e (fault_stands text fault h))
+
     nothing_more : (more : List Piece) → IsCut (joined g.pieces) more [] h.rest → ⊥
     nothing_more [] cut = at_end (sym cut)
     nothing_more (m ∷ more) cut = end_stops (joined g.pieces) m more h.rest cut
+
     fault_further : GoesOn [] h.pieces g.pieces h.rest [] → ⊥
     fault_further on = nothing_more on.more on.cut
+
     list_further : GoesOn [] g.pieces h.pieces [] h.rest → ⊥
     list_further on =
         let tokens-are : tokens ≡ lexemes [] (h.pieces ++ on.more) = g.tokens-are ∙ ap (lexemes []) on.pieces-are in

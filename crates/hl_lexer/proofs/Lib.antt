@@ -5,9 +5,11 @@ pub mod CutFacts
 pub mod FormFacts
 pub mod FrontFacts
 pub mod LawFacts
+pub mod ListedFacts
 pub mod Lists
 pub mod MarkFacts
 pub mod NumberFacts
+pub mod PartFacts
 pub mod PieceFacts
 pub mod PlaceFacts
 pub mod ReadFacts

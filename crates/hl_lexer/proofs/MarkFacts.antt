@@ -1,17 +1,16 @@
 -- The tables of marks.
-use Rattle.std.proofs.Common.{◌≡◌, ◌≢◌, ◌∙◌, refl, sym, ap, subst, ℕ, ◌+◌, ◌<◌, ◌≤◌, ◌⊎◌, inl, inr, ⊎_elim, Bool, true, false, not, ◌&&◌, ◌||◌, ◌==◌, cond, List, [], ◌∷◌, ◌++◌, Option, None, Some, length, get_or, slice_get, slice_index, slice_index_or, unwrap_or, take, drop, arith, nat_le, nat_lt, leb}
+use Rattle.std.proofs.Common.{◌≡◌, ◌≢◌, ◌∙◌, refl, sym, ap, ℕ, ◌+◌, ◌<◌, ◌≤◌, ⊎_elim, Bool, true, false, not, ◌&&◌, ◌||◌, ◌==◌, cond, List, [], ◌∷◌, ◌++◌, Option, None, Some, length, slice_index, unwrap_or, take, arith, nat_le, nat_lt}
 use Rattle.std.specs.Char.{is_ascii_digit}
-use Rattle.std.proofs.lemmas.Bool.{agree_below_at, and_parts, cases_Bool, cond-true, cond-false, eqb-true, leb-true, ltb-true, or_cases}
+use Rattle.std.proofs.lemmas.Bool.{agree_below_at, and_parts, eqb-true, leb-true, ltb-true, or_cases}
 use Rattle.std.proofs.lemmas.Option.{get_or_from_slice_get}
-use Rattle.hl_lexer.specs.declared.class.Class.{Class}
-use Rattle.hl_lexer.specs.declared.class.Class.TheVariants.{Other, Space, Letter, Digit, Mark}
+use Rattle.hl_lexer.specs.declared.class.Class.TheVariants.{Space, Letter, Digit, Mark}
 use Rattle.hl_lexer.specs.declared.mark.TheConstants.{TWICE, TWICE_WITH_EQUALS, WITH_EQUALS}
 use Rattle.hl_lexer.specs.Bytes.{is_letter, is_space_byte}
 use Rattle.hl_lexer.specs.Scanning.{class_of, first_of, mark_class, number_in, number_or_none}
 use Rattle.hl_lexer.specs.Spellings.{marks}
 use Rattle.hl_lexer.specs.Tokens.{IsMark}
-use Rattle.hl_lexer.proofs.ByteFacts.{implies, implied}
-use Rattle.hl_lexer.proofs.Lists.{each_at, each_passes, number_stands, passes_at}
+use Rattle.hl_lexer.proofs.ByteFacts.{implies}
+use Rattle.hl_lexer.proofs.Lists.{each_at, number_stands, passes_at}
 use Rattle.hl_lexer.proofs.TableFacts.{mark_number_is}
 
 -- the number of a mark

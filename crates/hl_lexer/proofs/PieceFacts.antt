@@ -1,5 +1,5 @@
 -- At most one piece stands at a place.
-use Rattle.std.proofs.Common.{◌≡◌, ◌∙◌, refl, sym, ap, subst, ℕ, ◌+◌, ◌<◌, ◌≤◌, ◌⊎◌, inl, inr, ⊎_elim, Bool, true, false, List, [], ◌∷◌, ◌++◌, length, arith, append_assoc}
+use Rattle.std.proofs.Common.{◌≡◌, ◌∙◌, refl, sym, ap, subst, ℕ, ◌<◌, ◌≤◌, ◌⊎◌, inl, inr, ⊎_elim, true, List, [], ◌∷◌, ◌++◌, length, arith, append_assoc}
 use Rattle.std.specs.List.{AllPass}
 use Rattle.hl_lexer.specs.declared.token.TokenKind.{TokenKind}
 use Rattle.hl_lexer.specs.Bytes.{Ends, is_no_line_feed, is_space_byte}

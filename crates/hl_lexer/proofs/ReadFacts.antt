@@ -1,18 +1,17 @@
 -- How far a reader has read, piece by piece.
-use Rattle.std.proofs.Common.{◌≡◌, ◌≢◌, ◌∙◌, refl, sym, ap, subst, ℕ, zero, suc, ◌+◌, ◌-◌, ◌^◌, ◌<◌, ◌≤◌, ◌⊎◌, inl, inr, ⊎_elim, Bool, List, [], ◌∷◌, ◌++◌, length, map, take, drop, arith, append-nil, append_assoc, length-append, length-drop, length-take, length-take-le, take-append-drop}
-use Rattle.std.specs.List.{AllPass}
+use Rattle.std.proofs.Common.{◌≡◌, ◌≢◌, ◌∙◌, refl, sym, ap, subst, ℕ, ◌+◌, ◌^◌, ◌<◌, ◌≤◌, inl, inr, List, [], ◌∷◌, ◌++◌, length, map, take, drop, arith, append-nil, length-append, length-drop, length-take-le, take-append-drop}
 use Rattle.std.proofs.Math.Seq.{take-add}
-use Rattle.std.proofs.lemmas.List.{append_cancel_right, drop-drop, drop_all, length-map, map_push, nil_from_length, take_all}
+use Rattle.std.proofs.lemmas.List.{append_cancel_right, drop-drop, drop_all, length-map, map_push, take_all}
 use Rattle.base_core.specs.declared.place.Place.{Place}
 use Rattle.hl_lexer.specs.declared.fault.LexFault.{LexFault}
-use Rattle.hl_lexer.specs.declared.fault.LexFault.TheVariants.{BadByte, NumberTooLarge, TooManyTokens, Memory}
+use Rattle.hl_lexer.specs.declared.fault.LexFault.TheVariants.{BadByte, NumberTooLarge, TooManyTokens}
 use Rattle.hl_lexer.specs.declared.reader.Reader.{Reader}
 use Rattle.hl_lexer.specs.declared.token.Token.{Token}
 use Rattle.hl_lexer.specs.declared.token.TokenKind.{TokenKind}
 use Rattle.hl_lexer.specs.declared.token.TokenKind.TheVariants.{Number}
 use Rattle.hl_lexer.specs.Reading.{HasRead, OrderMarkIs, place_past}
 use Rattle.hl_lexer.specs.Scanning.{BeginsNoSpace, BeginsNoToken, HasSpace, HasToken}
-use Rattle.hl_lexer.specs.Tokens.{BeginsLargeNumber, BeginsNothing, BeginsToken, IsCut, IsFirstFault, IsTokenList, Lexeme, MayStand, Piece, PieceHasRoom, FaultAt, a_space, a_token, bytes_of, lexeme_of, lexemes, most_tokens, order_mark, place_after}
+use Rattle.hl_lexer.specs.Tokens.{BeginsLargeNumber, BeginsNothing, IsCut, IsFirstFault, IsTokenList, MayStand, Piece, PieceHasRoom, FaultAt, a_space, a_token, bytes_of, lexeme_of, lexemes, most_tokens, order_mark, place_after}
 use Rattle.hl_lexer.proofs.CutFacts.{cut_more, cut_text, joined, lexemes-append}
 use Rattle.hl_lexer.proofs.FormFacts.{form_line}
 use Rattle.hl_lexer.proofs.PlaceFacts.{column_within, line_within, place_along, place_more}
@@ -102,11 +101,11 @@ read_token old new kind n token h found w few tokens lexeme =
       cut = over_cut old new n (a_token kind (take n (rest_of old))) h w refl found.token found.room;
       place-is = over_place old new n h w;
       tokens-are =
-      ap (map lexeme_of) tokens
-      ∙ (map_push lexeme_of old.tokens token
-      ∙ (ap (λ ts. ts ++ lexeme_of token ∷ []) h.tokens-are
-      ∙ (ap (λ t. lexemes [] h.pieces ++ t ∷ []) lexeme-is
-      ∙ sym (lexemes-append [] h.pieces (a_token kind (take n (rest_of old)) ∷ [])))));
+          ap (map lexeme_of) tokens
+          ∙ (map_push lexeme_of old.tokens token
+          ∙ (ap (λ ts. ts ++ lexeme_of token ∷ []) h.tokens-are
+          ∙ (ap (λ t. lexemes [] h.pieces ++ t ∷ []) lexeme-is
+          ∙ sym (lexemes-append [] h.pieces (a_token kind (take n (rest_of old)) ∷ [])))));
       limit = omega (arith, ap length tokens, length-append old.tokens (token ∷ []));
       no_order_mark = λ e after f. omega (arith, w.some, w.start);
     }

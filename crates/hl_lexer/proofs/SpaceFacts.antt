@@ -1,8 +1,8 @@
 -- Comments at the front of a text.
-use Rattle.std.proofs.Common.{◌≡◌, ◌≢◌, ◌∙◌, refl, sym, ap, subst, ℕ, suc, ◌+◌, ◌-◌, ◌<◌, ◌≤◌, ◌⊎◌, inl, inr, ⊎_elim, Bool, true, false, List, [], ◌∷◌, ◌++◌, Option, None, Some, MatchOption, length, get_or, slice_index, take, drop, arith, add-zero, append_assoc, length-append, length-drop, length-take, take-append-drop, get_or-append-add}
+use Rattle.std.proofs.Common.{◌≡◌, ◌≢◌, ◌∙◌, refl, sym, ap, subst, ℕ, suc, ◌+◌, ◌<◌, ◌≤◌, inr, ⊎_elim, true, false, List, [], ◌∷◌, ◌++◌, length, get_or, slice_index, take, drop, arith, add-zero, append_assoc, length-append, length-take, take-append-drop, get_or-append-add}
 use Rattle.std.specs.List.{AllPass}
 use Rattle.std.proofs.lemmas.Bool.{cases_lt}
-use Rattle.std.proofs.lemmas.List.{drop_at, drop_more, get_or_past, take_at}
+use Rattle.std.proofs.lemmas.List.{drop_more, get_or_past, take_at}
 use Rattle.hl_lexer.specs.Bytes.{Ends, is_no_line_feed, is_space_byte}
 use Rattle.hl_lexer.specs.Scanning.{BeginsNoSpace, ClosesAt, FirstClosing, HasSpace, NoClosing}
 use Rattle.hl_lexer.specs.Tokens.{BeginsComment, IsSpace, a_block, a_byte, a_line}
@@ -24,8 +24,8 @@ closes_here bytes n h =
 
 front_closes : (bytes front back : List ℕ) → bytes ≡ front ++ 42 ∷ 47 ∷ back → ClosesAt bytes (length front)
 front_closes bytes front back e = (
-    ap (λ bs. get_or bs (length front) 0) e ∙ (ap (λ n. get_or (front ++ 42 ∷ 47 ∷ back) n 0) (sym (add-zero (length front))) ∙ get_or-append-add front (42 ∷ 47 ∷ back) 0 0),
-    ap (λ bs. get_or bs (length front + 1) 0) e ∙ get_or-append-add front (42 ∷ 47 ∷ back) 1 0,
+  ap (λ bs. get_or bs (length front) 0) e ∙ (ap (λ n. get_or (front ++ 42 ∷ 47 ∷ back) n 0) (sym (add-zero (length front))) ∙ get_or-append-add front (42 ∷ 47 ∷ back) 0 0),
+  ap (λ bs. get_or bs (length front + 1) 0) e ∙ get_or-append-add front (42 ∷ 47 ∷ back) 1 0,
 )
 
 pub first_closing : (bytes : List ℕ) (n : ℕ) → ((k : ℕ) → k < n → ClosesAt bytes k → ⊥) → ClosesAt bytes n → FirstClosing bytes n

@@ -1,20 +1,19 @@
 -- The tables of words and marks.
-use Rattle.std.proofs.Common.{◌≡◌, ◌∙◌, refl, sym, ap, subst, ℕ, ◌+◌, ◌<◌, ◌≤◌, ◌⊎◌, inl, inr, Bool, true, false, ◌&&◌, ◌==◌, List, [], ◌∷◌, Option, None, Some, length, get_or, slice_get, slice_index, slice_index_or, take, drop, ◌-◌, arith, nat_le, leb}
-use Rattle.std.specs.List.{All, AllPass, list_all}
+use Rattle.std.proofs.Common.{◌≡◌, ◌∙◌, refl, ap, subst, ℕ, ◌+◌, ◌<◌, ◌≤◌, Bool, true, false, ◌&&◌, ◌==◌, List, [], ◌∷◌, Option, None, Some, length, slice_get, slice_index, slice_index_or, take, drop, ◌-◌, arith, nat_le}
+use Rattle.std.specs.List.{AllPass, list_all}
 use Rattle.std.specs.Str.{bytes_eq}
 use Rattle.std.proofs.lemmas.Bool.{agree_below_at, and_parts, eqb-true, leb-true, ltb-true}
 use Rattle.std.proofs.lemmas.Option.{get_or_from_slice_get, slice_get-get_or}
 use Rattle.std.proofs.lemmas.Slice.Eq.{bytes_eq-Decides}
 use Rattle.std.proofs.lemmas.List.Sums.{AllPass-from_list_all}
 use Rattle.std.specs.Prelude.{nat_lt}
-use Rattle.hl_lexer.specs.declared.class.Class.{Class}
 use Rattle.hl_lexer.specs.declared.word.TheConstants.{LETTERS, SLOTS, STARTS}
 use Rattle.hl_lexer.specs.Bytes.{is_letter, is_word_byte, is_no_line_feed}
 use Rattle.hl_lexer.specs.Scanning.{class_of, number_in, word_slot}
 use Rattle.hl_lexer.specs.Spellings.{words, marks}
 use Rattle.hl_lexer.specs.Tokens.{IsMark, IsWord}
 use Rattle.hl_lexer.proofs.ByteFacts.{class_sort}
-use Rattle.hl_lexer.proofs.Lists.{each_at, each_passes, number_stands, passes_at}
+use Rattle.hl_lexer.proofs.Lists.{each_at, each_passes, passes_at}
 
 abbrev is_number : Option ℕ → ℕ → Bool
 is_number None n = false
@@ -59,6 +58,7 @@ word_within n bytes e = ltb-true n 35 (subst (λ m. nat_lt m 35 ≡ true) same a
   where
     at : nat_lt (n + 0) 35 ≡ true
     at = each_at (λ k w. nat_lt k 35) 0 words n bytes refl e
+
     same : n + 0 ≡ n
     same = omega arith
 

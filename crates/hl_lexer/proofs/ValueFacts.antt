@@ -1,7 +1,6 @@
 -- The number that digits spell, digit by digit.
-use Rattle.std.proofs.Common.{◌≡◌, ◌∙◌, refl, sym, ap, subst, ℕ, suc, ◌+◌, ◌*◌, ◌^◌, ◌<◌, ◌≤◌, min, ◌⊎◌, inl, inr, ⊎_elim, Bool, true, false, List, [], ◌∷◌, ◌++◌, Option, None, Some, MatchOption, length, get_or, slice_index, take, drop, arith}
-use Rattle.std.specs.Char.{digit_value, is_digit}
-use Rattle.std.specs.List.{AllPass}
+use Rattle.std.proofs.Common.{◌≡◌, ◌∙◌, refl, sym, ap, subst, ℕ, suc, ◌+◌, ◌*◌, ◌^◌, ◌<◌, inl, inr, ⊎_elim, Bool, true, false, List, [], ◌∷◌, ◌++◌, Option, None, Some, MatchOption, length, get_or, slice_index, take, drop, arith}
+use Rattle.std.specs.Char.{digit_value}
 use Rattle.std.proofs.Math.Nat.{le-mul_of_pos_right, pow-suc, pow-zero}
 use Rattle.std.proofs.lemmas.Bool.{cases_lt}
 use Rattle.std.proofs.lemmas.List.{append-nil, length_push, same_from_push, take_more}
@@ -24,10 +23,10 @@ capped_step v n base d some e =
     ⊎_elim
     (λ small. let same : v ≡ n = omega arith in ap (λ z. capped (z * base + d)) same)
     (λ large.
-        let same : v ≡ 4294967296 = omega arith in
-        let one = le-mul_of_pos_right {m = base} 4294967296 some in
-        let two = le-mul_of_pos_right {m = base} n some in
-        omega (arith, ap (λ z. z * base) same))
+    let same : v ≡ 4294967296 = omega arith in
+    let one = le-mul_of_pos_right {m = base} 4294967296 some in
+    let two = le-mul_of_pos_right {m = base} n some in
+    omega (arith, ap (λ z. z * base) same))
     (cases_lt n 4294967296)
 
 pub capped_more : (v base : ℕ) (digits : List ℕ) (i : ℕ) → 0 < base → i < length digits → v ≡ capped (digits_number base (take i digits)) → capped (v * base + digit_value (get_or digits i 0)) ≡ capped (digits_number base (take (i + 1) digits))

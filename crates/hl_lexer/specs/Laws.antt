@@ -1,8 +1,11 @@
 -- What holds of the tokens of every text.
-use Rattle.std.specs.Prelude.{◌≡◌, ℕ, ◌≤◌, List, length}
+use Rattle.std.specs.Prelude.{◌≡◌, ◌≢◌, ℕ, ◌≤◌, List, length}
 use Rattle.base_core.specs.declared.place.Place.{Place}
 use Rattle.hl_lexer.specs.declared.fault.LexFault.{LexFault}
-use Rattle.hl_lexer.specs.Tokens.{IsFirstFault, IsTokenList, Lexeme, most_tokens}
+use Rattle.hl_lexer.specs.declared.terminal.Terminal.TheVariants.{Unlisted}
+use Rattle.hl_lexer.specs.declared.token.TokenKind.{TokenKind}
+use Rattle.hl_lexer.specs.Terminals.{terminal_of}
+use Rattle.hl_lexer.specs.Tokens.{IsFirstFault, IsForm, IsTokenList, Lexeme, most_tokens}
 
 -- a text has at most one list of tokens
 abbrev pub AtMostOneTokenList : Type 0
@@ -28,3 +31,7 @@ AtMostOneFault =
     → IsFirstFault text fault
     → IsFirstFault text other
     → fault ≡ other
+
+-- each form of a token has a terminal of its own
+abbrev pub FormsAreListed : Type 0
+FormsAreListed = (kind : TokenKind) (bytes after : List ℕ) → IsForm kind bytes after → terminal_of kind ≢ Unlisted

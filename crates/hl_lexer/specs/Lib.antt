@@ -4,4 +4,5 @@ pub mod Numbers
 pub mod Reading
 pub mod Scanning
 pub mod Spellings
+pub mod Terminals
 pub mod Tokens

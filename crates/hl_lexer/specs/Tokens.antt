@@ -2,7 +2,7 @@
 --
 -- A text is cut into pieces: tokens, and spaces before, between and after them. At each place the
 -- longest token that begins there is taken. Where a comment begins no token does.
-use Rattle.std.specs.Prelude.{◌≡◌, ℕ, ◌+◌, ◌<◌, ◌≤◌, Bool, ◌⊎◌, true, List, [], ◌∷◌, ◌++◌, length, slice_get, Some}
+use Rattle.std.specs.Prelude.{◌≡◌, ℕ, ◌+◌, ◌<◌, ◌≤◌, Bool, ◌⊎◌, true, List, [], ◌∷◌, ◌++◌, length, slice_get, slice_range, Some}
 use Rattle.std.specs.List.{AllPass, count_by, after_last}
 use Rattle.base_core.specs.declared.place.Place.{Place}
 use Rattle.hl_lexer.specs.declared.token.TokenKind.{TokenKind}
@@ -139,6 +139,10 @@ pub record IsTokenList (text : List ℕ) (tokens : List Lexeme) (end : Place) : 
   pub cut : IsCut [] pieces text []
   pub tokens-are : tokens ≡ lexemes [] pieces
   pub end-is : end ≡ place_after text
+
+-- a token's bytes are those of the text from its start on
+abbrev pub IsPartOf : List ℕ → Lexeme → Type 0
+IsPartOf text token = slice_range text token.start (token.start + length token.text) ≡ token.text
 
 -- faults
 

@@ -4,7 +4,7 @@ ghost use Rattle.std.specs.Prelude.{◌≡◌, slice_index};
 ghost use Rattle.hl_lexer.specs.Scanning.{class_of};
 
 /// What a piece of a text can be that begins with a byte.
-#[derive(Clone, Copy, Debug, PartialEq, Eq)]
+#[derive(Clone, Copy, Debug)]
 pub(crate) enum Class {
     /// No piece begins with the byte.
     Other,
@@ -18,37 +18,19 @@ pub(crate) enum Class {
     Mark(u8),
 }
 
-/// The class of a byte.
-pub(crate) fn class_of(byte: u8) -> Class
-    ensures { result ≡ class_of byte }
-{
-    let code = code_of(byte);
-    if code == LETTER {
-        Class::Letter
-    } else if code == SPACE {
-        Class::Space
-    } else if code == DIGIT {
-        Class::Digit
-    } else if code == OTHER {
-        Class::Other
-    } else {
-        Class::Mark(code)
-    }
-}
-
-/// The class of a byte as the table has it.
-fn code_of(byte: u8) -> u8
-    ensures { result ≡ slice_index CLASSES byte }
-{
-    CLASSES[byte as usize]
-}
-
+/// What the table has for a byte with which no piece begins.
 const OTHER: u8 = 255;
+
+/// What the table has for a space of one byte.
 const SPACE: u8 = 254;
+
+/// What the table has for a letter or `_`.
 const LETTER: u8 = 253;
+
+/// What the table has for a digit.
 const DIGIT: u8 = 252;
 
-/// The class of each byte.
+/// What each byte can begin: one of the numbers above, or the number of the mark that it is.
 #[rattlefmt::skip]
 static CLASSES: [u8; 256] = [
     OTHER, OTHER, OTHER, OTHER, OTHER, OTHER, OTHER, OTHER,
@@ -84,3 +66,28 @@ static CLASSES: [u8; 256] = [
     OTHER, OTHER, OTHER, OTHER, OTHER, OTHER, OTHER, OTHER,
     OTHER, OTHER, OTHER, OTHER, OTHER, OTHER, OTHER, OTHER,
 ];
+
+/// The class of a byte.
+pub(crate) fn class_of(byte: u8) -> Class
+    ensures { result ≡ class_of byte }
+{
+    let code = code_of(byte);
+    if code == LETTER {
+        Class::Letter
+    } else if code == SPACE {
+        Class::Space
+    } else if code == DIGIT {
+        Class::Digit
+    } else if code == OTHER {
+        Class::Other
+    } else {
+        Class::Mark(code)
+    }
+}
+
+/// The class of a byte as the table has it.
+fn code_of(byte: u8) -> u8
+    ensures { result ≡ slice_index CLASSES byte }
+{
+    CLASSES[byte as usize]
+}

@@ -15,7 +15,7 @@ use crate::token::TokenKind;
 use crate::word::word_number;
 
 /// The piece that a text begins with, apart from the byte-order mark.
-#[derive(Clone, Copy, Debug, PartialEq, Eq)]
+#[derive(Clone, Copy, Debug)]
 pub(crate) enum Front {
     /// A space of this many bytes.
     Space(usize),

@@ -1,6 +1,6 @@
 //! Laws of tokens, each the clause of a function that does nothing.
 
-ghost use Rattle.hl_lexer.specs.Laws.{AtMostOneFault, AtMostOneTokenList, FaultHasNoTokenList};
+ghost use Rattle.hl_lexer.specs.Laws.{AtMostOneFault, AtMostOneTokenList, FaultHasNoTokenList, FormsAreListed};
 
 /// A text has at most one list of tokens.
 pub fn at_most_one_token_list()
@@ -15,4 +15,9 @@ pub fn fault_has_no_token_list()
 /// A text has at most one first fault.
 pub fn at_most_one_fault()
     ensures { AtMostOneFault }
+{}
+
+/// Each form of a token has a terminal, other than `Unlisted`.
+pub fn forms_are_listed()
+    ensures { FormsAreListed }
 {}

@@ -5,14 +5,17 @@ mod class;
 mod fault;
 mod front;
 pub mod laws;
-
 mod mark;
 mod number;
 mod reader;
 mod space;
+mod terminal;
+#[cfg(test)]
+mod tests;
 mod token;
 mod word;
 
 pub use fault::LexFault;
 pub use reader::lex;
+pub use terminal::Terminal;
 pub use token::{Token, TokenKind, Tokens};

@@ -27,12 +27,12 @@ static WITH_EQUALS: [u8; SINGLE_COUNT] = [
 
 /// The mark of a byte twice and `=`, by the mark of the byte: `<<=` for `<`.
 static TWICE_WITH_EQUALS: [u8; SINGLE_COUNT] = [
-    255, 255, 255, 255, 255, 255, 255, 255, 255, 255, 255, 255, 255, 255, 255, 255, 255, 40, 41, 255,
-    255, 255, 255, 255,
+    255, 255, 255, 255, 255, 255, 255, 255, 255, 255, 255, 255, 255, 255, 255, 255, 255, 40, 41,
+    255, 255, 255, 255, 255,
 ];
 
 /// A mark and its length.
-#[derive(Clone, Copy, Debug, PartialEq, Eq)]
+#[derive(Clone, Copy, Debug)]
 pub(crate) struct Found {
     /// The number of the mark.
     pub(crate) number: u8,

@@ -10,7 +10,7 @@ use crate::space::byte_at;
 pub(crate) const TOO_LARGE: u64 = 4294967296;
 
 /// A number and whether it has a suffix.
-#[derive(Clone, Copy, Debug, PartialEq, Eq)]
+#[derive(Clone, Copy, Debug)]
 pub(crate) struct Numeral {
     /// The number, or 4294967296 where it is larger.
     pub(crate) value: u64,

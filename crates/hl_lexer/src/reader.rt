@@ -1,12 +1,12 @@
 //! The tokens of a text.
 
-ghost use Rattle.std.specs.Prelude.{◌≡◌, ◌+◌, ◌^◌, ◌<◌, ◌≤◌, ◌⊎◌, ℕ, List, length, drop, IfOk, IfErr, OnOk};
+ghost use Rattle.std.specs.Prelude.{◌≡◌, ◌+◌, ◌^◌, ◌<◌, ◌≤◌, ◌⊎◌, ℕ, List, length, drop, All, IfOk, IfErr, OnOk};
 ghost use Rattle.base_core.specs.declared.place.Place.{Place};
 ghost use Rattle.hl_lexer.specs.declared.fault.LexFault.TheVariants.{Memory};
 ghost use Rattle.hl_lexer.specs.declared.fault.LexFault.{LexFault};
 ghost use Rattle.hl_lexer.specs.Reading.{GivesTokens, HasRead, OrderMarkIs, lexemes_of, next_place, place_past};
 ghost use Rattle.hl_lexer.specs.Scanning.{HasSpace, HasToken};
-ghost use Rattle.hl_lexer.specs.Tokens.{BeginsLargeNumber, IsFirstFault, IsTokenList, Lexeme, most_tokens};
+ghost use Rattle.hl_lexer.specs.Tokens.{BeginsLargeNumber, IsFirstFault, IsPartOf, IsTokenList, Lexeme, most_tokens};
 
 use crate::fault::LexFault;
 use crate::front::{Front, front_of};
@@ -30,6 +30,9 @@ pub fn lex<'a>(alloc: Global, text: &'a [u8]) -> Result<Tokens<'a>, LexFault>
     // What is answered are the tokens of the text.
     ensures tokens { IfOk result (λ found. IsTokenList text.now (lexemes_of found) found.end) }
     ensures limit { IfOk result (λ found. length (lexemes_of found) ≤ most_tokens) }
+
+    // Each token's bytes stand in the text from its start on.
+    ensures parts { IfOk result (λ found. All (IsPartOf text.now) (lexemes_of found)) }
 
     // The tokens of the text are answered, if they are not too many, unless memory runs out.
     ensures every_list { (tokens : List Lexeme) (end : Place) → IsTokenList text.now tokens end → length tokens ≤ most_tokens → GivesTokens result tokens end }

@@ -6,7 +6,7 @@ ghost use Rattle.hl_lexer.specs.Bytes.{Ends, is_no_line_feed};
 ghost use Rattle.hl_lexer.specs.Scanning.{ClosesAt, CommentIs, FirstClosing, NoClosing};
 
 /// What comment a text begins with.
-#[derive(Clone, Copy, Debug, PartialEq, Eq)]
+#[derive(Clone, Copy, Debug)]
 pub(crate) enum Comment {
     /// It begins with no comment.
     Absent,

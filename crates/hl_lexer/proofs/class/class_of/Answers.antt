@@ -1,4 +1,4 @@
-use Rattle.std.proofs.Common.{◌≡◌, ◌∙◌, sym, ap, ℕ, ◌<◌, arith}
+use Rattle.std.proofs.Common.{◌≡◌, ◌∙◌, sym, ap, arith}
 use Rattle.hl_lexer.specs.Scanning.{class_of}
 use Rattle.hl_lexer.proofs.ClassFacts.{class_in_table, code_class, other_code}
 use Rattle.hl_lexer.proofs.class.class_of.Goals as goal

@@ -1,4 +1,4 @@
-use Rattle.std.proofs.Common.{◌≡◌, sym}
+use Rattle.std.proofs.Common.{sym}
 use Rattle.hl_lexer.proofs.FrontFacts.{byte_space, other_nothing}
 use Rattle.hl_lexer.proofs.front.front_of.Goals as goal
 

@@ -1,4 +1,4 @@
-use Rattle.std.proofs.Common.{◌≡◌, ◌≢◌, ◌∙◌, sym, ap, ap₂, subst, ℕ, [], ◌∷◌, take, slice_index}
+use Rattle.std.proofs.Common.{◌≡◌, ◌∙◌, sym, ap, ap₂, subst, [], ◌∷◌, take, slice_index}
 use Rattle.hl_lexer.specs.Scanning.{number_or_none}
 use Rattle.hl_lexer.specs.Tokens.{IsMark}
 use Rattle.hl_lexer.proofs.MarkFacts.{at_most_one, at_most_three, at_most_two, front_of_three, front_of_two, one_is_mark, three_is_mark, three_within, two_is_mark, two_within}

@@ -1,4 +1,4 @@
-use Rattle.std.proofs.Common.{◌≡◌, ◌∙◌, sym, ap, ap₂, ℕ, [], ◌∷◌}
+use Rattle.std.proofs.Common.{◌∙◌, sym, ap, ap₂, [], ◌∷◌}
 use Rattle.hl_lexer.specs.Scanning.{number_or_none}
 use Rattle.hl_lexer.proofs.MarkFacts.{other_second, other_third, single_below, single_first}
 use Rattle.hl_lexer.proofs.mark.mark_of_three.Goals as goal

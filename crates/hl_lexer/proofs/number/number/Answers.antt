@@ -1,4 +1,4 @@
-use Rattle.std.proofs.Common.{◌≡◌, ◌∙◌, sym, subst, ℕ, List, Option, MatchOption, drop}
+use Rattle.std.proofs.Common.{◌≡◌, ◌∙◌, sym, subst, ℕ, List, MatchOption}
 use Rattle.std.proofs.lemmas.List.{take_rest}
 use Rattle.hl_lexer.specs.Numbers.{AreSomeDigits, digits_number}
 use Rattle.hl_lexer.specs.Scanning.{capped}

@@ -1,4 +1,4 @@
-use Rattle.std.proofs.Common.{◌≡◌, ◌∙◌, ap, ℕ, ◌+◌, ◌*◌, ◌<◌, ◌≤◌, true, arith, get_or, lt-ltb}
+use Rattle.std.proofs.Common.{◌≡◌, ◌∙◌, ap, ◌+◌, ◌*◌, true, arith, get_or, lt-ltb}
 use Rattle.std.specs.Char.{digit_value, is_digit}
 use Rattle.std.proofs.lemmas.List.Elements.{All-more}
 use Rattle.std.proofs.lemmas.Nat.{mul-le}
@@ -19,7 +19,7 @@ loop-byte-preserved c =
     record {
       each = All-more (λ b. is_digit b c.args.base ≡ true) digits index 0 c.loop-byte-test.true c.loop-byte.invariant.each (lt-ltb (digit_value (get_or digits index 0)) c.args.base found.0);
       number =
-      c.min-value.ensures
-      ∙ (ap (λ d. capped (c.loop-byte.value * c.args.base + d)) found.1
-      ∙ capped_more c.loop-byte.value c.args.base digits index (omega (arith, c.requires.low)) c.loop-byte-test.true c.loop-byte.invariant.number);
+          c.min-value.ensures
+          ∙ (ap (λ d. capped (c.loop-byte.value * c.args.base + d)) found.1
+          ∙ capped_more c.loop-byte.value c.args.base digits index (omega (arith, c.requires.low)) c.loop-byte-test.true c.loop-byte.invariant.number);
     }

@@ -1,4 +1,4 @@
-use Rattle.std.proofs.Common.{◌≡◌, ℕ, take}
+use Rattle.std.proofs.Common.{◌≡◌, take}
 use Rattle.std.specs.Char.{is_digit}
 use Rattle.std.specs.List.{AllPass}
 use Rattle.hl_lexer.specs.Numbers.{digits_number}

@@ -1,4 +1,4 @@
-use Rattle.std.proofs.Common.{◌≡◌, ◌∙◌, sym}
+use Rattle.std.proofs.Common.{◌∙◌, sym}
 use Rattle.hl_lexer.proofs.ReadFacts.{large_too_many, too_large}
 use Rattle.hl_lexer.proofs.reader.large_number.Goals as goal
 

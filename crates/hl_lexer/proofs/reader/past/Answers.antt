@@ -1,6 +1,6 @@
-use Rattle.std.proofs.Common.{◌≡◌, ◌∙◌, sym, ap, subst, ℕ, ◌+◌, ◌≤◌, drop, get_or, arith}
+use Rattle.std.proofs.Common.{◌∙◌, sym, ap, ◌+◌, drop, get_or, arith}
 use Rattle.base_core.specs.declared.place.Place.{Place}
-use Rattle.hl_lexer.specs.Reading.{next_place, place_past}
+use Rattle.hl_lexer.specs.Reading.{place_past}
 use Rattle.hl_lexer.proofs.PlaceFacts.{next_column, next_line, past_more}
 use Rattle.hl_lexer.proofs.reader.past.Goals as goal
 

@@ -1,4 +1,4 @@
-use Rattle.std.proofs.Common.{◌≡◌, ℕ, ◌+◌, ◌≤◌, drop}
+use Rattle.std.proofs.Common.{◌≡◌, ◌+◌, ◌≤◌, drop}
 use Rattle.hl_lexer.specs.Reading.{place_past}
 use Rattle.hl_lexer.proofs.reader.past.Given as goal
 

@@ -1,4 +1,4 @@
-use Rattle.std.proofs.Common.{◌≡◌, ◌∙◌, refl, ap, ℕ, ◌+◌, ◌-◌, take, drop, arith}
+use Rattle.std.proofs.Common.{◌≡◌, ◌∙◌, refl, ap, ◌+◌, ◌-◌, take, arith}
 use Rattle.hl_lexer.specs.Reading.{place_past}
 use Rattle.hl_lexer.proofs.ReadFacts.{read_space, rest_of}
 use Rattle.hl_lexer.proofs.reader.skip.Goals as goal

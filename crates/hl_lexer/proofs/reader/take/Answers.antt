@@ -1,7 +1,4 @@
-use Rattle.std.proofs.Common.{◌≡◌, ◌∙◌, refl, sym, ap, inr, ℕ, ◌+◌, ◌-◌, ◌<◌, length, take, drop, arith}
-use Rattle.base_core.specs.declared.place.Place.{Place}
-use Rattle.hl_lexer.specs.Reading.{place_past}
-use Rattle.hl_lexer.specs.Tokens.{Lexeme}
+use Rattle.std.proofs.Common.{◌≡◌, ◌∙◌, refl, sym, ap, inr, ◌+◌, ◌-◌, take, arith}
 use Rattle.hl_lexer.proofs.ReadFacts.{one_too_many, read_token, rest_of, token_place}
 use Rattle.hl_lexer.proofs.reader.take.Goals as goal
 

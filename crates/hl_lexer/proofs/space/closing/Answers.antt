@@ -1,4 +1,4 @@
-use Rattle.std.proofs.Common.{ℕ, ◌<◌, length, arith}
+use Rattle.std.proofs.Common.{arith}
 use Rattle.hl_lexer.proofs.SpaceFacts.{first_closing, no_closing}
 use Rattle.hl_lexer.proofs.space.closing.Goals as goal
 

@@ -1,4 +1,4 @@
-use Rattle.std.proofs.Common.{◌≡◌, ◌∙◌, sym, subst, ℕ, ◌≤◌, List, length, take, drop}
+use Rattle.std.proofs.Common.{◌∙◌, sym, subst, ℕ, ◌≤◌, List, length, take, drop}
 use Rattle.std.specs.List.{AllPass}
 use Rattle.std.proofs.lemmas.List.{take_rest}
 use Rattle.hl_lexer.specs.Bytes.{Ends, is_no_line_feed}

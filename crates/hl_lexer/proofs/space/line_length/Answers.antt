@@ -1,4 +1,4 @@
-use Rattle.std.proofs.Common.{◌≡◌, ℕ, true, get_or, not, ap, ne_eqb}
+use Rattle.std.proofs.Common.{◌≡◌, true, get_or, not, ap, ne_eqb}
 use Rattle.std.proofs.lemmas.List.Elements.{All-more}
 use Rattle.hl_lexer.specs.Bytes.{is_no_line_feed}
 use Rattle.hl_lexer.proofs.space.line_length.Goals as goal

@@ -1,5 +1,4 @@
-use Rattle.std.proofs.Common.{◌≡◌, ◌∙◌, sym, ap, ℕ, ◌+◌, ◌-◌, ◌≤◌, List, length, take, drop, arith}
-use Rattle.hl_lexer.specs.declared.word.TheConstants.{LETTERS}
+use Rattle.std.proofs.Common.{ap, length, arith}
 use Rattle.hl_lexer.proofs.TableFacts.{letters_are, starts_rise, starts_within}
 use Rattle.hl_lexer.proofs.word.spelling.Goals as goal
 

@@ -1,10 +1,8 @@
 -- Lists that begin alike, and tables of them.
-use Rattle.std.proofs.Common.{◌≡◌, ◌∙◌, refl, sym, ap, subst, ℕ, zero, suc, ◌+◌, ◌<◌, ◌≤◌, Bool, true, ◌&&◌, List, [], ◌∷◌, ◌++◌, Some, map, length, get_or, slice_get, arith, Bor}
-use Rattle.std.specs.Prelude.{slice_index_or}
+use Rattle.std.proofs.Common.{◌≡◌, ◌∙◌, refl, sym, ap, subst, ℕ, zero, suc, ◌+◌, ◌≤◌, Bool, true, ◌&&◌, List, [], ◌∷◌, ◌++◌, Some, length, get_or, slice_get, arith}
 use Rattle.std.specs.List.{AllPass, position_or_len, list_all}
 use Rattle.std.specs.Str.{bytes_eq}
 use Rattle.std.proofs.lemmas.Bool.{and_parts, both_ways, ltb-true}
-use Rattle.std.proofs.lemmas.List.{get_or-map, length-map}
 use Rattle.std.proofs.lemmas.List.Elements.{All-head, All-tail}
 use Rattle.std.proofs.lemmas.List.Sums.{AllPass-from_list_all, passes_at_first}
 use Rattle.std.proofs.lemmas.Option.{cond_some, slice_get_within, get_or_from_slice_get, slice_get-get_or}
@@ -76,9 +74,3 @@ number_stands spellings bytes n e =
     let same = (bytes_eq-Decides (get_or spellings (position_or_len test spellings) []) bytes).0 passes in
     subst (λ m. slice_get spellings m ≡ Some bytes) found.1
     (slice_get-get_or spellings (position_or_len test spellings) [] within ∙ ap Some same)
-
--- a table that is read at references holds what they point to
-pub read_at : (refs : List (Bor (List ℕ))) (texts : List (List ℕ)) (n : ℕ) (d : Bor (List ℕ)) → map (λ r. r.now) refs ≡ texts → n < length texts → (slice_index_or refs n d).now ≡ slice_index_or texts n []
-read_at refs texts n d e within =
-    let same : length refs ≡ length texts = sym (length-map refs (λ (r : Bor (List ℕ)). r.now)) ∙ ap length e in
-    sym (get_or-map (λ (r : Bor (List ℕ)). r.now) refs n d [] (omega arith)) ∙ ap (λ ts. get_or ts n []) e

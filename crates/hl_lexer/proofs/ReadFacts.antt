@@ -2,7 +2,6 @@
 use Rattle.std.proofs.Common.{◌≡◌, ◌≢◌, ◌∙◌, refl, sym, ap, subst, ℕ, ◌+◌, ◌^◌, ◌<◌, ◌≤◌, inl, inr, List, [], ◌∷◌, ◌++◌, length, map, take, drop, arith, append-nil, length-append, length-drop, length-take-le, take-append-drop}
 use Rattle.std.proofs.Math.Seq.{take-add}
 use Rattle.std.proofs.lemmas.List.{append_cancel_right, drop-drop, drop_all, length-map, map_push, take_all}
-use Rattle.base_core.specs.declared.place.Place.{Place}
 use Rattle.hl_lexer.specs.declared.fault.LexFault.{LexFault}
 use Rattle.hl_lexer.specs.declared.fault.LexFault.TheVariants.{BadByte, NumberTooLarge, TooManyTokens}
 use Rattle.hl_lexer.specs.declared.reader.Reader.{Reader}
@@ -14,7 +13,7 @@ use Rattle.hl_lexer.specs.Scanning.{BeginsNoSpace, BeginsNoToken, HasSpace, HasT
 use Rattle.hl_lexer.specs.Tokens.{BeginsLargeNumber, BeginsNothing, IsCut, IsFirstFault, IsTokenList, MayStand, Piece, PieceHasRoom, FaultAt, a_space, a_token, bytes_of, lexeme_of, lexemes, most_tokens, order_mark, place_after}
 use Rattle.hl_lexer.proofs.CutFacts.{cut_more, cut_text, joined, lexemes-append}
 use Rattle.hl_lexer.proofs.FormFacts.{form_line}
-use Rattle.hl_lexer.proofs.PlaceFacts.{column_within, line_within, place_along, place_more}
+use Rattle.hl_lexer.proofs.PlaceFacts.{place_along, place_more}
 
 -- what is read and what isn't
 
@@ -35,13 +34,6 @@ count_read reader h = sym (ap length h.tokens-are) ∙ length-map reader.tokens 
 
 length_read : (reader : Reader) → HasRead reader → length (read_of reader) ≡ reader.start
 length_read reader h = length-take-le reader.start reader.text.now h.within
-
--- the bounds of the place
-pub line_bound : (reader : Reader) → HasRead reader → reader.place.line ≤ reader.start + 1
-line_bound reader h = omega (arith, line_within (read_of reader), ap (λ (p : Place). p.line) h.place-is, length_read reader h)
-
-pub column_bound : (reader : Reader) → HasRead reader → reader.place.column ≤ reader.start + 1
-column_bound reader h = omega (arith, column_within (read_of reader), ap (λ (p : Place). p.column) h.place-is, length_read reader h)
 
 -- one more piece, of n bytes
 

@@ -69,3 +69,10 @@ no_numeral bytes digits false (same, no_suffix) none n unsigned h = otherwise h.
     otherwise front [] is spelled ends = none n (subst (λ bs. SpellsNumber bs n) (sym (same ∙ (is ∙ append-nil front))) spelled)
     otherwise front (c ∷ []) is spelled ends = no_suffix front c ends.0 is
     otherwise front (c ∷ d ∷ ds) is spelled ends = ends
+
+-- digits and their suffix are a number
+pub some_numeral : (bytes digits : List ℕ) (suffixed : Bool) (value : ℕ) → SplitsSuffix bytes digits suffixed → SpellsCapped digits value → (number : ℕ) × IsNumber bytes number suffixed × (value ≡ capped number)
+some_numeral bytes digits true value (b, suffix, e) (number, spelled, capped-is) =
+    (number, record { digits = digits; suffix = b ∷ []; bytes-are = e; spelled = spelled; suffix-is = (suffix, refl) }, capped-is)
+some_numeral bytes digits false value (same, no_suffix) (number, spelled, capped-is) =
+    (number, record { digits = digits; suffix = []; bytes-are = sym same ∙ sym (append-nil digits); spelled = spelled; suffix-is = refl }, capped-is)

@@ -2,7 +2,7 @@
 --
 -- A text is cut into pieces: tokens, and spaces before, between and after them. At each place the
 -- longest token that begins there is taken. Where a comment begins no token does.
-use Rattle.std.specs.Prelude.{◌≡◌, ℕ, ◌+◌, ◌<◌, ◌≤◌, Bool, ◌⊎◌, true, List, [], ◌∷◌, ◌++◌, length, slice_get, slice_range, Some}
+use Rattle.std.specs.Prelude.{◌≡◌, ℕ, ◌+◌, ◌<◌, ◌≤◌, Bool, ◌⊎◌, true, List, [], ◌∷◌, ◌++◌, length, slice_get, slice_range, Some, codes}
 use Rattle.std.specs.List.{AllPass, count_by, after_last}
 use Rattle.base_core.specs.declared.place.Place.{Place}
 use Rattle.hl_lexer.specs.declared.token.TokenKind.{TokenKind}
@@ -51,7 +51,7 @@ IsForm (Mark number) bytes after = IsMark number bytes
 
 -- spaces
 
--- here a comment begins: `//` or `/*`
+-- here a comment begins: `//` or `/*`, where 47 is `/` and 42 is `*`
 abbrev pub BeginsComment : List ℕ → Type 0
 BeginsComment [] = ⊥
 BeginsComment (a ∷ []) = ⊥
@@ -61,8 +61,8 @@ BeginsComment (a ∷ b ∷ rest) = (a ≡ 47) × ((b ≡ 47) ⊎ (b ≡ 42))
 -- feed or the end, or a comment from `/*` up to the next `*/`
 pub data IsSpace (bytes after : List ℕ) : Type 0 where
   a_byte : (b : ℕ) → is_space_byte b ≡ true → bytes ≡ b ∷ [] → IsSpace bytes after
-  a_line : (body : List ℕ) → bytes ≡ 47 ∷ 47 ∷ body → AllPass is_no_line_feed body → Ends is_no_line_feed after → IsSpace bytes after
-  a_block : (body : List ℕ) → bytes ≡ 47 ∷ 42 ∷ body ++ 42 ∷ 47 ∷ [] → ((front back : List ℕ) → body ++ 42 ∷ 47 ∷ after ≡ front ++ 42 ∷ 47 ∷ back → length body ≤ length front) → IsSpace bytes after
+  a_line : (body : List ℕ) → bytes ≡ codes "//" ++ body → AllPass is_no_line_feed body → Ends is_no_line_feed after → IsSpace bytes after
+  a_block : (body : List ℕ) → bytes ≡ codes "/*" ++ (body ++ codes "*/") → ((front back : List ℕ) → body ++ (codes "*/" ++ after) ≡ front ++ (codes "*/" ++ back) → length body ≤ length front) → IsSpace bytes after
 
 -- pieces
 

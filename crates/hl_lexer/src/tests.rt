@@ -2,7 +2,7 @@
 
 ghost use Rattle.std.specs.Prelude.{◌^◌, ◌<◌, length};
 
-use crate::{LexFault, Terminal, TokenKind, lex};
+use crate::{LexFault, Terminal, TokenKind, laws, lex};
 use base_core::Place;
 use std::test::Fail;
 
@@ -184,4 +184,12 @@ fn reads_at_most_262144_tokens(rt: HostRuntime) -> Result<(), Fail> {
         }
     }
     Ok(())
+}
+
+#[test]
+fn has_its_laws() {
+    laws::at_most_one_token_list();
+    laws::fault_has_no_token_list();
+    laws::at_most_one_fault();
+    laws::forms_are_listed();
 }

@@ -1,0 +1,21 @@
+//! The tokens of a source text (HLSL language specification, "Lexical Conventions").
+#![tactic(auto)]
+
+mod class;
+mod fault;
+mod front;
+pub mod laws;
+mod mark;
+mod number;
+mod reader;
+mod space;
+mod terminal;
+#[cfg(test)]
+mod tests;
+mod token;
+mod word;
+
+pub use fault::LexFault;
+pub use reader::lex;
+pub use terminal::Terminal;
+pub use token::{Token, TokenKind, Tokens};

@@ -47,7 +47,7 @@ pub fn pool_stores(alloc: Global, stores: &[LiteralStore]) -> Result<(Words, Pai
 {
     let mut pool = WordPool {
         words: Sequence::new(alloc),
-        places: HashMap::new(alloc),
+        places: HashMap::with_capacity(alloc, 2 * stores.len())?,
     };
     let mut pairs = Sequence::new(alloc);
     for store in stores {

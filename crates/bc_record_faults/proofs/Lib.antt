@@ -1,0 +1,13 @@
+pub mod AgreeModule
+pub mod Agreement
+pub mod FreeBlocks
+pub mod FreeBodies
+pub mod FreeConstants
+pub mod FreeMetadata
+pub mod FreeModules
+pub mod FreeSites
+pub mod FreeSymbols
+pub mod FreeTypes
+pub mod NoRecordFault
+pub mod OneRecordFault
+pub mod Tests

@@ -1,0 +1,3 @@
+pub mod FaultSites
+pub mod RecordFaults
+pub mod RecordKinds

@@ -4,8 +4,7 @@ use Rattle.base_core.specs.declared.place.Place.{Place}
 use Rattle.hl_lexer.specs.declared.fault.LexFault.{LexFault}
 use Rattle.hl_lexer.specs.declared.fault.LexFault.TheVariants.{BadByte, NumberTooLarge, TooManyTokens, Memory}
 use Rattle.hl_lexer.specs.declared.token.Tokens.{Tokens}
-use Rattle.hl_lexer.specs.Reading.{GivesTokens, lexemes_of}
-use Rattle.hl_lexer.specs.Tokens.{IsFirstFault, IsTokenList, Lexeme, most_tokens}
+use Rattle.hl_lexer.specs.Tokens.{GivesTokens, IsFirstFault, IsTokenList, Lexeme, lexemes_of, most_tokens}
 use Rattle.hl_lexer.proofs.LawFacts.{at_most_one_fault, at_most_one_token_list, fault_has_no_token_list}
 
 -- a fault that memory ran out, or that stands in the text

@@ -5,8 +5,7 @@ use Rattle.std.proofs.lemmas.List.Elements.{All-cons, All-nil}
 use Rattle.base_core.specs.declared.place.Place.{Place}
 use Rattle.hl_lexer.specs.declared.fault.LexFault.{LexFault}
 use Rattle.hl_lexer.specs.declared.token.Tokens.{Tokens}
-use Rattle.hl_lexer.specs.Reading.{lexemes_of}
-use Rattle.hl_lexer.specs.Tokens.{IsCut, IsPartOf, IsTokenList, Lexeme, Piece, a_space, a_token, bytes_of, lexemes, order_mark, place_after}
+use Rattle.hl_lexer.specs.Tokens.{IsCut, IsPartOf, IsTokenList, Lexeme, Piece, a_space, a_token, bytes_of, lexemes, lexemes_of, order_mark, place_after}
 
 part : (before bytes after : List ℕ) → take (length before + length bytes - length before) (drop (length before) (before ++ (bytes ++ after))) ≡ bytes
 part before bytes after =

@@ -1,26 +1,9 @@
 -- Words of the functions that read a text piece by piece.
 use Rattle.std.specs.Prelude.{◌≡◌, ℕ, ◌+◌, ◌^◌, ◌<◌, ◌≤◌, ◌⊎◌, if◌then◌else◌, List, [], ◌∷◌, ◌++◌, length, map, take, drop}
-use Rattle.std.specs.declared.result.Result.{Result}
-use Rattle.std.specs.declared.result.Result.TheVariants.{Ok, Err}
 use Rattle.base_core.specs.declared.place.Place.{Place}
-use Rattle.hl_lexer.specs.declared.fault.LexFault.{LexFault}
-use Rattle.hl_lexer.specs.declared.fault.LexFault.TheVariants.{BadByte, NumberTooLarge, TooManyTokens, Memory}
 use Rattle.hl_lexer.specs.declared.reader.Reader.{Reader}
-use Rattle.hl_lexer.specs.declared.token.Tokens.{Tokens}
 use Rattle.hl_lexer.specs.Bytes.{is_line_feed}
-use Rattle.hl_lexer.specs.Tokens.{IsCut, Lexeme, Piece, bytes_of, lexeme_of, lexemes, most_tokens, order_mark, place_after}
-
--- the tokens of an answer, without where their texts lie in memory
-abbrev pub lexemes_of : Tokens → List Lexeme
-lexemes_of found = map lexeme_of found.list
-
--- the answer is these tokens and this end, or memory ran out
-abbrev pub GivesTokens : Result Tokens LexFault → List Lexeme → Place → Type 0
-GivesTokens (Ok found) tokens end = (lexemes_of found ≡ tokens) × (found.end ≡ end)
-GivesTokens (Err Memory) tokens end = Unit {0}
-GivesTokens (Err (BadByte place)) tokens end = ⊥
-GivesTokens (Err (NumberTooLarge place)) tokens end = ⊥
-GivesTokens (Err TooManyTokens) tokens end = ⊥
+use Rattle.hl_lexer.specs.Tokens.{IsCut, Piece, bytes_of, lexeme_of, lexemes, most_tokens, order_mark, place_after}
 
 -- the place behind a byte, and behind some bytes
 abbrev pub next_place : Place → ℕ → Place

@@ -2,12 +2,15 @@
 --
 -- A text is cut into pieces: tokens, and spaces before, between and after them. At each place the
 -- longest token that begins there is taken. Where a comment begins no token does.
-use Rattle.std.specs.Prelude.{◌≡◌, ℕ, ◌+◌, ◌<◌, ◌≤◌, Bool, ◌⊎◌, true, List, [], ◌∷◌, ◌++◌, length, slice_get, slice_range, Some, codes}
+use Rattle.std.specs.Prelude.{◌≡◌, ℕ, ◌+◌, ◌<◌, ◌≤◌, Bool, ◌⊎◌, true, List, [], ◌∷◌, ◌++◌, length, map, slice_get, slice_range, Some, codes}
 use Rattle.std.specs.List.{AllPass, count_by, after_last}
+use Rattle.std.specs.declared.result.Result.{Result}
+use Rattle.std.specs.declared.result.Result.TheVariants.{Ok, Err}
 use Rattle.base_core.specs.declared.place.Place.{Place}
 use Rattle.hl_lexer.specs.declared.token.TokenKind.{TokenKind}
 use Rattle.hl_lexer.specs.declared.token.TokenKind.TheVariants.{Name, Word, Number, Mark}
 use Rattle.hl_lexer.specs.declared.token.Token.{Token}
+use Rattle.hl_lexer.specs.declared.token.Tokens.{Tokens}
 use Rattle.hl_lexer.specs.declared.fault.LexFault.{LexFault}
 use Rattle.hl_lexer.specs.declared.fault.LexFault.TheVariants.{BadByte, NumberTooLarge, TooManyTokens, Memory}
 use Rattle.hl_lexer.specs.Bytes.{is_letter, is_word_byte, is_line_feed, is_no_line_feed, is_space_byte, Ends}
@@ -184,3 +187,17 @@ pub record IsFirstFault (text : List ℕ) (fault : LexFault) : Type 0 where
   pub cut : IsCut [] pieces text rest
   pub within : length (lexemes [] pieces) ≤ most_tokens
   pub here : FaultAt before (length (lexemes [] pieces)) rest fault
+
+-- answers
+
+-- the tokens of an answer, without where their texts lie in memory
+abbrev pub lexemes_of : Tokens → List Lexeme
+lexemes_of found = map lexeme_of found.list
+
+-- the answer is these tokens and this end, or memory ran out
+abbrev pub GivesTokens : Result Tokens LexFault → List Lexeme → Place → Type 0
+GivesTokens (Ok found) tokens end = (lexemes_of found ≡ tokens) × (found.end ≡ end)
+GivesTokens (Err Memory) tokens end = Unit {0}
+GivesTokens (Err (BadByte place)) tokens end = ⊥
+GivesTokens (Err (NumberTooLarge place)) tokens end = ⊥
+GivesTokens (Err TooManyTokens) tokens end = ⊥

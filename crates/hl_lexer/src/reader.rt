@@ -4,9 +4,9 @@ ghost use Rattle.std.specs.Prelude.{◌≡◌, ◌+◌, ◌^◌, ◌<◌, ◌≤
 ghost use Rattle.base_core.specs.declared.place.Place.{Place};
 ghost use Rattle.hl_lexer.specs.declared.fault.LexFault.TheVariants.{Memory};
 ghost use Rattle.hl_lexer.specs.declared.fault.LexFault.{LexFault};
-ghost use Rattle.hl_lexer.specs.Reading.{GivesTokens, HasRead, OrderMarkIs, lexemes_of, next_place, place_past};
+ghost use Rattle.hl_lexer.specs.Reading.{HasRead, OrderMarkIs, next_place, place_past};
 ghost use Rattle.hl_lexer.specs.Scanning.{HasSpace, HasToken};
-ghost use Rattle.hl_lexer.specs.Tokens.{BeginsLargeNumber, IsFirstFault, IsPartOf, IsTokenList, Lexeme, most_tokens};
+ghost use Rattle.hl_lexer.specs.Tokens.{BeginsLargeNumber, GivesTokens, IsFirstFault, IsPartOf, IsTokenList, Lexeme, lexemes_of, most_tokens};
 
 use crate::fault::LexFault;
 use crate::front::{Front, front_of};

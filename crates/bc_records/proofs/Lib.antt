@@ -18,3 +18,16 @@ pub mod Back
 pub mod TablesOnce
 pub mod BodiesOnce
 pub mod OneModule
+pub mod Tests
+pub mod FreeSites
+pub mod FreeTypes
+pub mod FreeConstants
+pub mod FreeMetadata
+pub mod FreeSymbols
+pub mod FreeBodies
+pub mod FreeBlocks
+pub mod Agreement
+pub mod AgreeModule
+pub mod FreeModules
+pub mod NoRecordFault
+pub mod OneRecordFault

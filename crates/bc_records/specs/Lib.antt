@@ -10,3 +10,7 @@ pub mod Ranges
 pub mod FirstList
 pub mod Records
 pub mod Written
+pub mod FaultSites
+pub mod RecordKinds
+pub mod RecordFaults
+pub mod Read

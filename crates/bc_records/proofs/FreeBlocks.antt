@@ -5,12 +5,12 @@ use Rattle.std.proofs.lemmas.List.{length-append}
 use Rattle.std.proofs.lemmas.List.Elements.{All-nil, All-head, All-tail}
 use Rattle.bc_stream.specs.Blocks.{Contents, no_more, a_record, a_block, append}
 use Rattle.bc_records.specs.Entries.{entries_in, block_ids, blocks_in, block_count}
-use Rattle.bc_record_faults.specs.FaultSites.{IsFree, sites}
-use Rattle.bc_record_faults.specs.RecordKinds.{Known, Numbers, numbers_of, with_bodies, all_of, kind_if}
-use Rattle.bc_record_faults.specs.RecordFaults.{types_table, constants_table, metadata_table, body_table, body_heads, body_inside, module_table, module_heads, module_inside, bodies_before, body_count}
-use Rattle.bc_record_faults.proofs.FreeSites.{FreeBlocks, more_none}
-use Rattle.bc_record_faults.proofs.FreeSymbols.{EachSymbols, joined}
-use Rattle.bc_record_faults.proofs.Tests.{Each, below, unless}
+use Rattle.bc_records.specs.FaultSites.{IsFree, sites}
+use Rattle.bc_records.specs.RecordKinds.{Known, Numbers, numbers_of, with_bodies, all_of, kind_if}
+use Rattle.bc_records.specs.RecordFaults.{types_table, constants_table, metadata_table, body_table, body_heads, body_inside, module_table, module_heads, module_inside, bodies_before, body_count}
+use Rattle.bc_records.proofs.FreeSites.{FreeBlocks, more_none}
+use Rattle.bc_records.proofs.FreeSymbols.{EachSymbols, joined}
+use Rattle.bc_records.proofs.Tests.{Each, below, unless}
 
 if_append : (t : Bool) (inner : Contents) (xs ys zs : List Contents) → xs ≡ ys ++ zs → (if t then inner ∷ xs else xs) ≡ (if t then inner ∷ ys else ys) ++ zs
 if_append true inner xs ys zs same = ap (λ bs. inner ∷ bs) same

@@ -15,11 +15,11 @@ use Rattle.ir_core.specs.Values.{signature, signature_of, callee_signature, has_
 use Rattle.ir_core.specs.Soundness.{IsSoundInst, Names, Takes}
 use Rattle.bc_records.specs.Entries.{Entry, entry, IsWord}
 use Rattle.bc_records.specs.BodyRecords.{BodyRecord, declare_blocks, return_record, call_record, body_entry, declared_blocks, absolute, IsTypeOf, instruction_records, InstructionsRecorded, filled_blocks, before_first, next_value}
-use Rattle.bc_record_faults.specs.RecordKinds.{Known, Numbers, counts, has_code, count_code, code_of, kind_if, kind_unless, is_word, signature_at, function_type_at, same_signature, same_type, is_value_type_at, entry_has_value, next_after, names_operand, called_signature, call_counts, call_names, is_past, body_kinds}
-use Rattle.bc_record_faults.proofs.Agreement.{Agrees, callee, has_result}
+use Rattle.bc_records.specs.RecordKinds.{Known, Numbers, counts, has_code, count_code, code_of, kind_if, kind_unless, is_word, signature_at, function_type_at, same_signature, same_type, is_value_type_at, entry_has_value, next_after, names_operand, called_signature, call_counts, call_names, is_past, body_kinds}
+use Rattle.bc_records.proofs.Agreement.{Agrees, callee, has_result}
 use Rattle.bc_records.proofs.BodiesOnce.{parts_same}
-use Rattle.bc_record_faults.proofs.FreeSites.{FreeRecords}
-use Rattle.bc_record_faults.proofs.Tests.{below, equal, both, unless, no_kinds, word_passes, same_passes, code_before, count_more}
+use Rattle.bc_records.proofs.FreeSites.{FreeRecords}
+use Rattle.bc_records.proofs.Tests.{below, equal, both, unless, no_kinds, word_passes, same_passes, code_before, count_more}
 
 past_not : (n k : ℕ) → k < n → nat_le n k ≡ false
 past_not n k less = tells (leb_tells n k)

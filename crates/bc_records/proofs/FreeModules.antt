@@ -5,9 +5,9 @@ use Rattle.std.specs.Prelude.{Bool, true, false, ◌==◌, ◌&&◌, nat_le, All
 use Rattle.std.proofs.lemmas.List.Elements.{All-head, All-tail}
 use Rattle.bc_records.specs.Entries.{Entry, entry, IsText}
 use Rattle.bc_records.specs.ModuleRecords.{ModuleRecord, version_record, triple_record, layout_record, function_record, module_entry, versions, triples, layouts, declarations}
-use Rattle.bc_record_faults.specs.RecordKinds.{Known, code_of, has_code, kind_if, kind_unless, is_text, is_function_type, module_kinds}
-use Rattle.bc_record_faults.proofs.FreeSites.{FreeRecords}
-use Rattle.bc_record_faults.proofs.Tests.{at_most, both, unless, no_kinds, text_passes, code_before}
+use Rattle.bc_records.specs.RecordKinds.{Known, code_of, has_code, kind_if, kind_unless, is_text, is_function_type, module_kinds}
+use Rattle.bc_records.proofs.FreeSites.{FreeRecords}
+use Rattle.bc_records.proofs.Tests.{at_most, both, unless, no_kinds, text_passes, code_before}
 
 -- so many records are still to come: none, or one where none stood before
 abbrev pub Once : {A : Type 0} → (code : ℕ) → List Entry → List A → Type 0

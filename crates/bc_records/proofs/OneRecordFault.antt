@@ -1,8 +1,8 @@
 -- A block list has at most one fault.
 use Rattle.std.proofs.Common.{◌≡◌, ℕ, suc, ◌≤◌, List, [], ◌∷◌, ◌++◌, length, ap, sym, ◌∙◌, subst, arith}
 use Rattle.std.specs.Prelude.{All, Contains}
-use Rattle.bc_record_faults.specs.FaultSites.{Site, site, IsFree}
-use Rattle.bc_record_faults.specs.RecordFaults.{OneRecordFault}
+use Rattle.bc_records.specs.FaultSites.{Site, site, IsFree}
+use Rattle.bc_records.specs.RecordFaults.{OneRecordFault}
 use Rattle.bc_records.proofs.BodiesOnce.{parts_same}
 
 all_head : {A : Type 0} (P : A → Type 0) (x : A) (xs : List A) → All P (x ∷ xs) → P x

@@ -5,8 +5,8 @@ use Rattle.ir_core.specs.declared.module.Module.{Module}
 use Rattle.bc_stream.specs.Blocks.{Contents, no_more}
 use Rattle.bc_records.specs.Codes.{module_block, constants_block, function_block, symbols_block, metadata_block, types_block}
 use Rattle.bc_records.specs.Entries.{Entry, entries_in, blocks_in}
-use Rattle.bc_record_faults.specs.FaultSites.{Site, site, Table, sites, sites_after, IsFirst, IsFree}
-use Rattle.bc_record_faults.specs.RecordKinds.{Known, known_of, kind_if, kind_unless, has_code, has_block, all_of, type_kinds, constant_kinds, metadata_kinds, symbol_kinds, numbers_of, Numbers, body_kinds, module_kinds, with_bodies}
+use Rattle.bc_records.specs.FaultSites.{Site, site, Table, sites, sites_after, IsFirst, IsFree}
+use Rattle.bc_records.specs.RecordKinds.{Known, known_of, kind_if, kind_unless, has_code, has_block, all_of, type_kinds, constant_kinds, metadata_kinds, symbol_kinds, numbers_of, Numbers, body_kinds, module_kinds, with_bodies}
 use Rattle.bc_records.specs.Records.{Recorded}
 
 -- a block that can't stand where it does: a known one has kind 6, and the others aren't read yet

@@ -10,12 +10,12 @@ use Rattle.bc_stream.specs.Blocks.{Contents}
 use Rattle.bc_records.specs.Entries.{Entry, IsWord, IsText}
 use Rattle.bc_records.specs.TypeRecords.{TypeRecord, number_of_entries, void_type, integer_type, pointer_type, metadata_type, struct_name, struct_type, function_type, type_entry, table_of, stated_numbers, IsTypeText, TypesRecorded}
 use Rattle.bc_records.specs.Ranges.{TypeInRange}
-use Rattle.bc_record_faults.specs.FaultSites.{IsFree, sites}
-use Rattle.bc_record_faults.specs.RecordKinds.{Known, has_code, kind_if, kind_unless, type_kinds, names, is_word, type_entries}
-use Rattle.bc_record_faults.specs.RecordFaults.{types_table}
+use Rattle.bc_records.specs.FaultSites.{IsFree, sites}
+use Rattle.bc_records.specs.RecordKinds.{Known, has_code, kind_if, kind_unless, type_kinds, names, is_word, type_entries}
+use Rattle.bc_records.specs.RecordFaults.{types_table}
 use Rattle.bc_records.proofs.BodiesOnce.{parts_same}
-use Rattle.bc_record_faults.proofs.FreeSites.{FreeRecords, free_flat}
-use Rattle.bc_record_faults.proofs.Tests.{at_most, equal, both, unless, no_kinds, text_passes, word_passes, name_passes, names_pass, code_before}
+use Rattle.bc_records.proofs.FreeSites.{FreeRecords, free_flat}
+use Rattle.bc_records.proofs.Tests.{at_most, equal, both, unless, no_kinds, text_passes, word_passes, name_passes, names_pass, code_before}
 
 -- the numbers and characters in a record
 abbrev SoundRecord : ℕ → TypeRecord → Type 0

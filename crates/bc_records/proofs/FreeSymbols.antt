@@ -7,12 +7,12 @@ use Rattle.std.proofs.lemmas.List.Elements.{All-head, All-tail, All-nil, All-con
 use Rattle.bc_stream.specs.Blocks.{Contents}
 use Rattle.bc_records.specs.Entries.{Entry, entry, entries_in, block_ids, IsText}
 use Rattle.bc_records.specs.SymbolRecords.{SymbolRecord, symbol, symbol_entry, IsOf, IsOther, NamesOnce, name_of, NamedFrom, SymbolsRecorded}
-use Rattle.bc_record_faults.specs.FaultSites.{IsFree, sites}
-use Rattle.bc_record_faults.specs.RecordKinds.{Known, kind_if, kind_unless, is_text, operand, names_value, symbol_kinds}
-use Rattle.bc_record_faults.specs.RecordFaults.{symbols_table}
+use Rattle.bc_records.specs.FaultSites.{IsFree, sites}
+use Rattle.bc_records.specs.RecordKinds.{Known, kind_if, kind_unless, is_text, operand, names_value, symbol_kinds}
+use Rattle.bc_records.specs.RecordFaults.{symbols_table}
 use Rattle.bc_records.proofs.BodiesOnce.{parts_same}
-use Rattle.bc_record_faults.proofs.FreeSites.{FreeRecords, free_flat, more_none}
-use Rattle.bc_record_faults.proofs.Tests.{neither, equal, below, at_most, unless, no_kinds, text_passes, both_none, all_left, all_right}
+use Rattle.bc_records.proofs.FreeSites.{FreeRecords, free_flat, more_none}
+use Rattle.bc_records.proofs.Tests.{neither, equal, below, at_most, unless, no_kinds, text_passes, both_none, all_left, all_right}
 
 -- the characters of a name
 abbrev pub HasText : SymbolRecord → Type 0

@@ -22,21 +22,21 @@ use Rattle.ir_core.specs.declared.module.Named.{Named}
 use Rattle.bc_records.specs.MetadataRecords.{metas_of, named_of}
 use Rattle.bc_records.specs.Ranges.{BodyInRange, FunctionInRange, MetaInRange, NamedInRange}
 use Rattle.bc_records.specs.Records.{Recorded}
-use Rattle.bc_record_faults.specs.FaultSites.{site, IsFree, sites, sites_after}
-use Rattle.bc_record_faults.specs.RecordKinds.{signature_of_entry, code_of, has_entry, Known, Numbers, known_of, numbers_of, parameters_of, signature_at, module_value_count, first_operand, next_after, has_code, with_bodies, function_entries, type_entries, first_of, all_of, constants_in, body_kinds, module_kinds, is_word, has_pointer_to, has_block}
-use Rattle.bc_record_faults.specs.RecordFaults.{body_table, module_table, outer_table, is_complete, body_count, bodies_before, record_sites, NoRecordFault}
-use Rattle.bc_record_faults.proofs.Agreement.{Agrees, is_value}
-use Rattle.bc_record_faults.proofs.AgreeModule.{signature_same, value_type_same, pointer_found, functions_long, function_types_same, pointers_typed}
+use Rattle.bc_records.specs.FaultSites.{site, IsFree, sites, sites_after}
+use Rattle.bc_records.specs.RecordKinds.{signature_of_entry, code_of, has_entry, Known, Numbers, known_of, numbers_of, parameters_of, signature_at, module_value_count, first_operand, next_after, has_code, with_bodies, function_entries, type_entries, first_of, all_of, constants_in, body_kinds, module_kinds, is_word, has_pointer_to, has_block}
+use Rattle.bc_records.specs.RecordFaults.{body_table, module_table, outer_table, is_complete, body_count, bodies_before, record_sites, NoRecordFault}
+use Rattle.bc_records.proofs.Agreement.{Agrees, is_value}
+use Rattle.bc_records.proofs.AgreeModule.{signature_same, value_type_same, pointer_found, functions_long, function_types_same, pointers_typed}
 use Rattle.bc_records.proofs.BodiesOnce.{parts_same}
-use Rattle.bc_record_faults.proofs.FreeSites.{FreeRecords, free}
-use Rattle.bc_record_faults.proofs.FreeTypes.{types_free, entries_long}
-use Rattle.bc_record_faults.proofs.FreeConstants.{constants_free, constants_long}
-use Rattle.bc_record_faults.proofs.FreeMetadata.{metadata_free, metadata_long}
-use Rattle.bc_record_faults.proofs.FreeSymbols.{symbols_all_free}
-use Rattle.bc_record_faults.proofs.FreeBodies.{values_long, body_free}
-use Rattle.bc_record_faults.proofs.FreeModules.{Declared, module_free, version_stands, triple_stands, layout_stands}
-use Rattle.bc_record_faults.proofs.FreeBlocks.{Fits, TypesFree, EachBody, body_blocks, module_blocks}
-use Rattle.bc_record_faults.proofs.Tests.{Each, at_most, below, both, unless, word_passes}
+use Rattle.bc_records.proofs.FreeSites.{FreeRecords, free}
+use Rattle.bc_records.proofs.FreeTypes.{types_free, entries_long}
+use Rattle.bc_records.proofs.FreeConstants.{constants_free, constants_long}
+use Rattle.bc_records.proofs.FreeMetadata.{metadata_free, metadata_long}
+use Rattle.bc_records.proofs.FreeSymbols.{symbols_all_free}
+use Rattle.bc_records.proofs.FreeBodies.{values_long, body_free}
+use Rattle.bc_records.proofs.FreeModules.{Declared, module_free, version_stands, triple_stands, layout_stands}
+use Rattle.bc_records.proofs.FreeBlocks.{Fits, TypesFree, EachBody, body_blocks, module_blocks}
+use Rattle.bc_records.proofs.Tests.{Each, at_most, below, both, unless, word_passes}
 use Rattle.bc_records.proofs.ValueLemmas.{value_count}
 
 -- one body

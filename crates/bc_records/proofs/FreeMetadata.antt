@@ -12,12 +12,12 @@ use Rattle.bc_stream.specs.Blocks.{Contents}
 use Rattle.bc_records.specs.Entries.{Entry, entry, entries_in, block_ids, IsWord, IsText}
 use Rattle.bc_records.specs.MetadataRecords.{MetadataRecord, string_metadata, value_metadata, node_metadata, named_metadata, metadata_entries, node_part, metas_of, named_of}
 use Rattle.bc_records.specs.Ranges.{MetaInRange, NamedInRange, PartInRange}
-use Rattle.bc_record_faults.specs.FaultSites.{IsFree, sites}
-use Rattle.bc_record_faults.specs.RecordKinds.{Known, kind_unless, names, names_part, is_text, last_has_code, metadata_kinds, metadata_in, module_value_count, all_of}
-use Rattle.bc_record_faults.specs.RecordFaults.{metadata_table}
+use Rattle.bc_records.specs.FaultSites.{IsFree, sites}
+use Rattle.bc_records.specs.RecordKinds.{Known, kind_unless, names, names_part, is_text, last_has_code, metadata_kinds, metadata_in, module_value_count, all_of}
+use Rattle.bc_records.specs.RecordFaults.{metadata_table}
 use Rattle.bc_records.proofs.BodiesOnce.{parts_same}
-use Rattle.bc_record_faults.proofs.FreeSites.{FreeRecords, free_flat}
-use Rattle.bc_record_faults.proofs.Tests.{both, unless, no_kinds, text_passes, name_passes, names_pass, last_more, Each, both_none, all_left, all_right, count_more}
+use Rattle.bc_records.proofs.FreeSites.{FreeRecords, free_flat}
+use Rattle.bc_records.proofs.Tests.{both, unless, no_kinds, text_passes, name_passes, names_pass, last_more, Each, both_none, all_left, all_right, count_more}
 
 -- the numbers and characters in records
 abbrev SoundRecord : Known → MetadataRecord → Type 0

@@ -14,9 +14,9 @@ use Rattle.ir_core.specs.Soundness.{EachHasType}
 use Rattle.bc_records.specs.Entries.{Entry, entry}
 use Rattle.bc_records.specs.TypeRecords.{TypeRecord, number_of_entries, void_type, integer_type, pointer_type, metadata_type, struct_name, struct_type, function_type, type_entry, table_of}
 use Rattle.bc_records.specs.ModuleRecords.{ModuleRecord, version_record, triple_record, layout_record, function_record, module_entry, declarations, declaration_of}
-use Rattle.bc_record_faults.specs.RecordKinds.{type_entries, signature_of_entry, code_of, has_entry, function_entries}
-use Rattle.bc_record_faults.proofs.Agreement.{is_value}
-use Rattle.bc_record_faults.proofs.Tests.{both, equal}
+use Rattle.bc_records.specs.RecordKinds.{type_entries, signature_of_entry, code_of, has_entry, function_entries}
+use Rattle.bc_records.proofs.Agreement.{is_value}
+use Rattle.bc_records.proofs.Tests.{both, equal}
 use Rattle.bc_records.proofs.ValueLemmas.{from_globals, value_count}
 
 -- types

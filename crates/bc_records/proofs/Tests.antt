@@ -8,7 +8,7 @@ use Rattle.std.proofs.lemmas.List.{length-append, get_or_append_left, get_or-app
 use Rattle.std.proofs.lemmas.List.Elements.{All-head, All-tail}
 use Rattle.bc_stream.specs.Blocks.{Contents}
 use Rattle.bc_records.specs.Entries.{Entry, IsWord, IsText}
-use Rattle.bc_record_faults.specs.RecordKinds.{code_of, has_code, count_code, last_has_code, is_word, is_text, names, kind_unless}
+use Rattle.bc_records.specs.RecordKinds.{code_of, has_code, count_code, last_has_code, is_word, is_text, names, kind_unless}
 
 pub below : (a b : ℕ) → a < b → nat_lt a b ≡ true
 below a b less = lt-ltb a b less

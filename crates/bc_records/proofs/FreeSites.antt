@@ -5,7 +5,7 @@ use Rattle.std.proofs.lemmas.List.Elements.{All-nil, All-cons, All-append}
 use Rattle.bc_stream.specs.Blocks.{Contents, no_more, a_record, a_block, append}
 use Rattle.bc_stream.proofs.BlockLemmas.{append-none, append-append}
 use Rattle.bc_records.specs.Entries.{Entry, entry, entries_in, block_ids, block_count}
-use Rattle.bc_record_faults.specs.FaultSites.{site, Table, IsFree, sites_after, sites}
+use Rattle.bc_records.specs.FaultSites.{site, Table, IsFree, sites_after, sites}
 
 -- no record has a kind, with the records before and after it
 abbrev pub FreeRecords : ((before : List Entry) → Entry → (after : List Entry) → List ℕ) → List Entry → List Entry → Type 0

@@ -7,7 +7,7 @@ use Rattle.ir_core.specs.declared.module.Ty.TheVariants.{Pointer}
 use Rattle.ir_core.specs.declared.module.Function.{Function}
 use Rattle.ir_core.specs.declared.module.Module.{Module}
 use Rattle.ir_core.specs.Values.{signature, callee_signature, function_at, is_void, module_values, number_of}
-use Rattle.bc_record_faults.specs.RecordKinds.{Known, signature_at, function_type_at, is_value_type_at, has_pointer_to, module_value_count}
+use Rattle.bc_records.specs.RecordKinds.{Known, signature_at, function_type_at, is_value_type_at, has_pointer_to, module_value_count}
 
 -- whether an entry is there and isn't void
 abbrev pub is_value : Option Ty → Bool

@@ -6,12 +6,12 @@ use Rattle.std.proofs.lemmas.List.Elements.{All-head, All-tail}
 use Rattle.bc_stream.specs.Blocks.{Contents}
 use Rattle.bc_records.specs.Entries.{Entry, entry, entries_in, block_ids}
 use Rattle.bc_records.specs.ConstantRecords.{ConstantRecord, set_type, null_constant, undef_constant, integer_constant, constant_entry, constants_of, SetsTypeFirst, NamesType}
-use Rattle.bc_record_faults.specs.FaultSites.{IsFree, sites}
-use Rattle.bc_record_faults.specs.RecordKinds.{Known, has_code, constant_kinds, constants_in, all_of}
-use Rattle.bc_record_faults.specs.RecordFaults.{constants_table}
+use Rattle.bc_records.specs.FaultSites.{IsFree, sites}
+use Rattle.bc_records.specs.RecordKinds.{Known, has_code, constant_kinds, constants_in, all_of}
+use Rattle.bc_records.specs.RecordFaults.{constants_table}
 use Rattle.bc_records.proofs.BodiesOnce.{parts_same}
-use Rattle.bc_record_faults.proofs.FreeSites.{FreeRecords, free_flat}
-use Rattle.bc_record_faults.proofs.Tests.{below, unless, code_stays, Each, both_none, all_left, all_right, count_more}
+use Rattle.bc_records.proofs.FreeSites.{FreeRecords, free_flat}
+use Rattle.bc_records.proofs.Tests.{below, unless, code_stays, Each, both_none, all_left, all_right, count_more}
 
 abbrev kinds : ℕ → List Entry → Entry → List Entry → List ℕ
 kinds n = λ before e after. constant_kinds n before e

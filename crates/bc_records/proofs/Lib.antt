@@ -20,6 +20,7 @@ pub mod BodiesOnce
 pub mod OneModule
 pub mod Tests
 pub mod FreeSites
+pub mod SitesFree
 pub mod FreeTypes
 pub mod FreeConstants
 pub mod FreeMetadata

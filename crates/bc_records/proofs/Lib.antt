@@ -32,3 +32,8 @@ pub mod AgreeModule
 pub mod FreeModules
 pub mod NoRecordFault
 pub mod OneRecordFault
+pub mod Told
+pub mod ReadTypes
+pub mod ReadConstants
+pub mod ReadMetadata
+pub mod ReadSymbols

@@ -21,6 +21,8 @@ pub mod OneModule
 pub mod Tests
 pub mod FreeSites
 pub mod SitesFree
+pub mod Tells
+pub mod HeldBlocks
 pub mod FreeTypes
 pub mod FreeConstants
 pub mod FreeMetadata

@@ -39,3 +39,4 @@ pub mod ReadTypes
 pub mod ReadConstants
 pub mod ReadMetadata
 pub mod ReadSymbols
+pub mod ReadRecords

@@ -40,3 +40,4 @@ pub mod ReadConstants
 pub mod ReadMetadata
 pub mod ReadSymbols
 pub mod ReadRecords
+pub mod ReadCode

@@ -41,3 +41,4 @@ pub mod ReadMetadata
 pub mod ReadSymbols
 pub mod ReadRecords
 pub mod ReadCode
+pub mod HaveTypes

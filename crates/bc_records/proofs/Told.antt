@@ -1,7 +1,7 @@
 -- What tests of numbers and records tell, and what is told of a block without a fault.
 use mathlib.Core.Logic.{◌⊎◌, inl, inr}
 use Rattle.std.proofs.Common.{◌≡◌, ℕ, suc, ◌+◌, ◌<◌, ◌≤◌, ◌^◌, ◌%◌, List, [], ◌∷◌, ◌++◌, map, length, refl, ap, sym, ◌∙◌, subst, arith}
-use Rattle.std.specs.Prelude.{◌≢◌, Bool, true, false, ◌==◌, ◌&&◌, ◌||◌, nat_lt, nat_le, drop, All}
+use Rattle.std.specs.Prelude.{◌≢◌, Bool, true, false, ◌==◌, ◌&&◌, ◌||◌, nat_lt, nat_le, drop, All, flat_map}
 use Rattle.std.specs.List.{list_all}
 use Rattle.std.proofs.lemmas.Bool.{ltb-true, leb-true, eqb-true, and_parts, or_left, or_right}
 use Rattle.std.proofs.lemmas.Bool.Decides.{eqb_tells}
@@ -11,7 +11,7 @@ use Rattle.bc_records.specs.Entries.{Entry, entries_in, block_ids, IsWord, IsTex
 use Rattle.bc_records.specs.RecordKinds.{code_of, operand, counts, kind_if, kind_unless, is_word, is_text, names, has_code}
 use Rattle.bc_records.specs.Read.{word, words, text}
 use Rattle.bc_records.proofs.FreeSites.{FreeRecords}
-use Rattle.bc_records.proofs.Tests.{both_none}
+use Rattle.bc_records.proofs.Tests.{Each, both_none, no_kinds}
 
 -- a block of records alone, none of which has a kind of fault
 abbrev pub Plain : ((before : List Entry) → Entry → (after : List Entry) → List ℕ) → Contents → Type 0
@@ -99,3 +99,13 @@ first_operands (x ∷ xs) h = refl
 pub code_here : (code : ℕ) (before : List Entry) (e : Entry) → (code_of e == code) ≡ true → has_code code (before ++ e ∷ []) ≡ true
 code_here code [] e is = or_left (code_of e == code) false is
 code_here code (x ∷ xs) e is = or_right (code_of x == code) (has_code code (xs ++ e ∷ [])) (code_here code xs e is)
+
+-- blocks of records alone
+
+pub no_ids : (kinds : (before : List Entry) → Entry → (after : List Entry) → List ℕ) (bs : List Contents) → Each (Plain kinds) bs → flat_map block_ids bs ≡ []
+no_ids kinds [] plain = refl
+no_ids kinds (b ∷ bs) plain = no_kinds (block_ids b) (flat_map block_ids bs) plain.0.0 (no_ids kinds bs plain.1)
+
+pub flat_map_map : {A B C : Type 0} (f : A → B) (g : B → List C) (xs : List A) → flat_map g (map f xs) ≡ flat_map (λ x. g (f x)) xs
+flat_map_map f g [] = refl
+flat_map_map f g (x ∷ xs) = ap (λ ys. g (f x) ++ ys) (flat_map_map f g xs)

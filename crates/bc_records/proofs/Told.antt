@@ -5,7 +5,7 @@ use Rattle.std.specs.Prelude.{◌≢◌, Bool, true, false, ◌==◌, ◌&&◌, 
 use Rattle.std.specs.List.{list_all}
 use Rattle.std.proofs.lemmas.Bool.{ltb-true, leb-true, eqb-true, and_parts, or_left, or_right}
 use Rattle.std.proofs.lemmas.Bool.Decides.{eqb_tells}
-use Rattle.std.proofs.lemmas.List.Elements.{All-nil, All-cons, All-head, All-tail}
+use Rattle.std.proofs.lemmas.List.Elements.{All-nil, All-cons, All-head, All-tail, All-append}
 use Rattle.bc_stream.specs.Blocks.{Contents}
 use Rattle.bc_records.specs.Entries.{Entry, entries_in, block_ids, IsWord, IsText}
 use Rattle.bc_records.specs.RecordKinds.{code_of, operand, counts, kind_if, kind_unless, is_word, is_text, names, has_code}
@@ -109,3 +109,15 @@ no_ids kinds (b ∷ bs) plain = no_kinds (block_ids b) (flat_map block_ids bs) p
 pub flat_map_map : {A B C : Type 0} (f : A → B) (g : B → List C) (xs : List A) → flat_map g (map f xs) ≡ flat_map (λ x. g (f x)) xs
 flat_map_map f g [] = refl
 flat_map_map f g (x ∷ xs) = ap (λ ys. g (f x) ++ ys) (flat_map_map f g xs)
+
+pub all_blocks_spelled : {R : Type 0} (kinds : (before : List Entry) → Entry → (after : List Entry) → List ℕ) (spell : R → List Entry) (read : Contents → R) →
+    ((b : Contents) → FreeRecords kinds [] (entries_in b) → entries_in b ≡ spell (read b)) → (bs : List Contents) → Each (Plain kinds) bs →
+    map entries_in bs ≡ map spell (map read bs)
+all_blocks_spelled kinds spell read each [] plain = refl
+all_blocks_spelled kinds spell read each (b ∷ bs) plain =
+    ap (λ x. x ∷ map entries_in bs) (each b plain.0.1) ∙ ap (λ xs. spell (read b) ∷ xs) (all_blocks_spelled kinds spell read each bs plain.1)
+
+pub all_in_blocks : {A : Type 0} (P : A → Type 0) (kinds : (before : List Entry) → Entry → (after : List Entry) → List ℕ) (said : Contents → List A) →
+    ((b : Contents) → FreeRecords kinds [] (entries_in b) → All P (said b)) → (bs : List Contents) → Each (Plain kinds) bs → All P (flat_map said bs)
+all_in_blocks P kinds said each [] plain = All-nil P
+all_in_blocks P kinds said each (b ∷ bs) plain = All-append P (said b) (flat_map said bs) (each b plain.0.1) (all_in_blocks P kinds said each bs plain.1)

@@ -42,3 +42,4 @@ pub mod ReadSymbols
 pub mod ReadRecords
 pub mod ReadCode
 pub mod HaveTypes
+pub mod ReadBodies

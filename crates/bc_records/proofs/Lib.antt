@@ -43,3 +43,4 @@ pub mod ReadRecords
 pub mod ReadCode
 pub mod HaveTypes
 pub mod ReadBodies
+pub mod ReadFunctions

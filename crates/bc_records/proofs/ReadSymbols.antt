@@ -1,7 +1,7 @@
 -- Blocks of names without a fault are recorded: each function has the name that they give it.
 use mathlib.Core.Logic.{◌⊎◌, inl, inr}
 use Rattle.std.proofs.Common.{◌≡◌, ℕ, zero, suc, ◌+◌, ◌<◌, ◌≤◌, List, [], ◌∷◌, ◌++◌, map, length, refl, ap, sym, ◌∙◌, subst, arith}
-use Rattle.std.specs.Prelude.{◌≢◌, Bool, true, false, ◌==◌, ◌&&◌, ◌||◌, if◌then◌else◌, nat_lt, nat_le, drop, All, flat_map}
+use Rattle.std.specs.Prelude.{◌≢◌, Bool, true, false, ◌==◌, ◌&&◌, if◌then◌else◌, nat_lt, nat_le, drop, All, flat_map}
 use Rattle.std.proofs.lemmas.Bool.{ltb-true, both_ways, or_left, or_right}
 use Rattle.std.proofs.lemmas.Bool.Decides.{eqb_tells}
 use Rattle.std.proofs.lemmas.List.{length-map}
@@ -10,7 +10,7 @@ use Rattle.ir_core.specs.declared.module.Function.{Function}
 use Rattle.bc_stream.specs.Blocks.{Contents}
 use Rattle.bc_records.specs.Entries.{Entry, entry, entries_in, block_ids, IsText}
 use Rattle.bc_records.specs.SymbolRecords.{SymbolRecord, symbol, symbol_entry, name_of, IsOf, IsOther, NamesOnce, NamedFrom, SymbolsRecorded}
-use Rattle.bc_records.specs.Read.{text, read_symbol, with_name, with_names}
+use Rattle.bc_records.specs.Read.{read_symbol, with_name, with_names}
 use Rattle.bc_records.specs.RecordKinds.{code_of, operands_of, operand, is_text, kind_if, kind_unless, names_value, symbol_kinds, all_of}
 use Rattle.bc_records.proofs.FreeSites.{FreeRecords, more_none}
 use Rattle.bc_records.proofs.FreeSymbols.{HasText, joined}

@@ -1,22 +1,22 @@
 -- Blocks of constants without a fault are recorded, and each constant has a type.
 use Rattle.std.proofs.Common.{◌≡◌, ℕ, ◌<◌, List, [], ◌∷◌, ◌++◌, map, length, refl, ap, sym, ◌∙◌, subst, arith}
-use Rattle.std.specs.Prelude.{Bool, true, false, ◌==◌, nat_lt, All, flat_map}
-use Rattle.std.proofs.lemmas.Bool.{ltb-true, both_ways}
-use Rattle.std.proofs.lemmas.List.Elements.{All-nil, All-cons, All-head, All-tail, All-append}
+use Rattle.std.specs.Prelude.{false, ◌==◌, nat_lt, All, flat_map}
+use Rattle.std.proofs.lemmas.Bool.{ltb-true}
+use Rattle.std.proofs.lemmas.List.Elements.{All-nil, All-cons, All-head, All-tail}
 use Rattle.ir_core.specs.declared.module.Const.{Const}
 use Rattle.ir_core.specs.declared.module.ConstValue.{ConstValue}
 use Rattle.ir_core.specs.declared.module.ConstValue.TheVariants.{Null, Undef, Int}
 use Rattle.ir_core.specs.Soundness.{Names}
 use Rattle.bc_stream.specs.Blocks.{Contents}
-use Rattle.bc_records.specs.Entries.{Entry, entry, IsWord, entries_in, block_ids}
+use Rattle.bc_records.specs.Entries.{Entry, entry, IsWord, entries_in}
 use Rattle.bc_records.specs.ConstantRecords.{ConstantRecord, set_type, null_constant, undef_constant, integer_constant, constant_entry, signed_value, constants_of, SetsTypeFirst, NamesType, ConstantsRecorded}
 use Rattle.bc_records.specs.Ranges.{ConstInRange}
-use Rattle.bc_records.specs.Read.{word, read_constant}
+use Rattle.bc_records.specs.Read.{read_constant}
 use Rattle.bc_records.specs.RecordKinds.{operand, counts, kind_unless, has_code, constant_kinds, constants_in, all_of}
 use Rattle.bc_records.proofs.FreeSites.{FreeRecords}
 use Rattle.bc_records.proofs.FreeConstants.{kinds, constants_long}
 use Rattle.bc_records.proofs.Tests.{Each}
-use Rattle.bc_records.proofs.Told.{Plain, no_ids, flat_map_map, choose, some_kind, told_unless, told_two, word_same, no_operands, one_operand}
+use Rattle.bc_records.proofs.Told.{Plain, no_ids, flat_map_map, all_blocks_spelled, all_in_blocks, choose, some_kind, told_unless, told_two, word_same, no_operands, one_operand}
 
 -- each record is spelled as it is read
 
@@ -116,26 +116,9 @@ block_told n block few free =
     let records : FreeRecords (kinds n) [] (map constant_entry (records_of block)) = subst (FreeRecords (kinds n) []) same free in
     record { spelled = same; first = first_told n (records_of block) records; named = types_told n [] (records_of block) records }
 
-module _ (n : ℕ) (few : IsWord n) where
-  all_blocks_spelled : (bs : List Contents) → Each (Plain (kinds n)) bs → map entries_in bs ≡ map (map constant_entry) (map records_of bs)
-  all_blocks_spelled [] plain = refl
-  all_blocks_spelled (b ∷ bs) plain =
-      ap (λ x. x ∷ map entries_in bs) (block_told n b few plain.0.1).spelled ∙ ap (λ xs. map constant_entry (records_of b) ∷ xs) (all_blocks_spelled bs plain.1)
-
-  all_first : (bs : List Contents) → Each (Plain (kinds n)) bs → All SetsTypeFirst (map records_of bs)
-  all_first [] plain = All-nil SetsTypeFirst
-  all_first (b ∷ bs) plain = All-cons SetsTypeFirst (records_of b) (map records_of bs) (block_told n b few plain.0.1).first (all_first bs plain.1)
-
-  all_named : (bs : List Contents) → Each (Plain (kinds n)) bs → All (NamesType n) (flat_map (λ block. block) (map records_of bs))
-  all_named [] plain = All-nil (NamesType n)
-  all_named (b ∷ bs) plain =
-      All-append (NamesType n) (records_of b) (flat_map (λ block. block) (map records_of bs)) (block_told n b few plain.0.1).named (all_named bs plain.1)
-
-  all_sound : (bs : List Contents) → Each (Plain (kinds n)) bs → All (Typed n) (flat_map constants_in_block bs)
-  all_sound [] plain = All-nil (Typed n)
-  all_sound (b ∷ bs) plain =
-      let told = block_told n b few plain.0.1 in
-      All-append (Typed n) (constants_in_block b) (flat_map constants_in_block bs) (all_typed n (records_of b) told.first told.named) (all_sound bs plain.1)
+all_first : (n : ℕ) (bs : List Contents) → IsWord n → Each (Plain (kinds n)) bs → All SetsTypeFirst (map records_of bs)
+all_first n [] few plain = All-nil SetsTypeFirst
+all_first n (b ∷ bs) few plain = All-cons SetsTypeFirst (records_of b) (map records_of bs) (block_told n b few plain.0.1).first (all_first n bs few plain.1)
 
 -- what is told of blocks of constants and the constants that they say, where there are n types
 pub record ConstantsTold (n : ℕ) (blocks : List Contents) (constants : List Const) : Type 0 where
@@ -147,16 +130,19 @@ pub record ConstantsTold (n : ℕ) (blocks : List Contents) (constants : List Co
 pub constants_told : (n : ℕ) (blocks : List Contents) → IsWord n → Each (Plain (λ before e after. constant_kinds n before e)) blocks →
     ConstantsTold n blocks (flat_map (λ block. constants_of 0 (map read_constant (entries_in block))) blocks)
 constants_told n blocks few plain =
-    let same : map entries_in blocks ≡ map (map constant_entry) (map records_of blocks) = all_blocks_spelled n few blocks plain in
+    let same : map entries_in blocks ≡ map (map constant_entry) (map records_of blocks)
+    = all_blocks_spelled (kinds n) (map constant_entry) records_of (λ b free. (block_told n b few free).spelled) blocks plain in
     let values : flat_map (constants_of 0) (map records_of blocks) ≡ flat_map constants_in_block blocks = flat_map_map records_of (constants_of 0) blocks in
-    let sound : All (Typed n) (flat_map constants_in_block blocks) = all_sound n few blocks plain in
+    let named : All (NamesType n) (flat_map records_of blocks) = all_in_blocks (NamesType n) (kinds n) records_of (λ b free. (block_told n b few free).named) blocks plain in
+    let sound : All (Typed n) (flat_map constants_in_block blocks)
+    = all_in_blocks (Typed n) (kinds n) constants_in_block (λ b free. let told = block_told n b few free in all_typed n (records_of b) told.first told.named) blocks plain in
     record {
       recorded = record {
         records = map records_of blocks;
         spelled = same;
         no_blocks = no_ids (kinds n) blocks plain;
-        typed = all_first n few blocks plain;
-        named = all_named n few blocks plain;
+        typed = all_first n blocks few plain;
+        named = subst (All (NamesType n)) (sym (flat_map_map records_of (λ block. block) blocks)) named;
         values = values;
       };
       sound = sound;

@@ -1,6 +1,6 @@
 -- Blocks of metadata without a fault are recorded, and the metadata is sound and in range.
-use Rattle.std.proofs.Common.{◌≡◌, ℕ, zero, suc, ◌<◌, List, [], ◌∷◌, ◌++◌, map, length, refl, ap, sym, ◌∙◌, subst, arith}
-use Rattle.std.specs.Prelude.{Bool, true, false, ◌==◌, ◌&&◌, IfSome, Option, All, flat_map}
+use Rattle.std.proofs.Common.{◌≡◌, ℕ, zero, suc, List, [], ◌∷◌, ◌++◌, map, length, refl, ap, sym, ◌∙◌, subst}
+use Rattle.std.specs.Prelude.{true, false, ◌==◌, ◌&&◌, IfSome, All, flat_map}
 use Rattle.std.specs.List.{list_all}
 use Rattle.std.proofs.lemmas.Bool.{eqb-true, both_ways, and_parts}
 use Rattle.std.proofs.lemmas.List.Elements.{All-nil, All-cons}
@@ -9,13 +9,13 @@ use Rattle.ir_core.specs.declared.module.Meta.TheVariants.{Chars, Value, Node}
 use Rattle.ir_core.specs.declared.module.Named.{Named}
 use Rattle.ir_core.specs.Soundness.{IsSoundMeta, Names}
 use Rattle.bc_stream.specs.Blocks.{Contents}
-use Rattle.bc_records.specs.Entries.{Entry, entry, entries_in, IsWord}
+use Rattle.bc_records.specs.Entries.{Entry, entry, entries_in}
 use Rattle.bc_records.specs.MetadataRecords.{MetadataRecord, string_metadata, value_metadata, node_metadata, named_metadata, metadata_entries, node_part, MetadataRecorded, metas_of, named_of}
 use Rattle.bc_records.specs.Ranges.{MetaInRange, NamedInRange, PartInRange}
 use Rattle.bc_records.specs.Read.{word, words, text, read_part, read_metadata}
-use Rattle.bc_records.specs.RecordKinds.{Known, operand, counts, names, names_part, is_text, kind_unless, first_has_code, last_has_code, metadata_kinds, metadata_in, module_value_count, all_of}
+use Rattle.bc_records.specs.RecordKinds.{Known, operand, counts, names, names_part, is_text, first_has_code, last_has_code, metadata_kinds, metadata_in, module_value_count, all_of}
 use Rattle.bc_records.proofs.FreeSites.{FreeRecords}
-use Rattle.bc_records.proofs.FreeMetadata.{SoundRecord, SoundRecords, SoundMetas, SoundNamed, metadata_long}
+use Rattle.bc_records.proofs.FreeMetadata.{SoundRecords, SoundMetas, SoundNamed, metadata_long}
 use Rattle.bc_records.proofs.Tests.{Each, last_more}
 use Rattle.bc_records.proofs.Told.{Plain, no_ids, flat_map_map, all_blocks_spelled, all_in_blocks, choose, some_kind, told_unless, told_two, told_text, told_name, told_names, word_same, words_same, text_same, two_operands}
 
@@ -74,8 +74,8 @@ nodes k ids es later before name ops free =
     let numbers = words_same ids (told_names k.metas ids told.0).1 in
     ap (λ xs. entry 4 xs ∷ entry 10 ids ∷ es) (sym chars)
     ∙ (
-      ap (λ xs. entry 4 (text ops) ∷ entry 10 xs ∷ es) (sym numbers)
-      ∙ ap (λ xs. entry 4 (text ops) ∷ entry 10 (words ids) ∷ xs) (later (b ++ entry 10 ids ∷ []) (text ops) (last_more 4 b (entry 10 ids)) free.1.1)
+    ap (λ xs. entry 4 (text ops) ∷ entry 10 xs ∷ es) (sym numbers)
+    ∙ ap (λ xs. entry 4 (text ops) ∷ entry 10 (words ids) ∷ xs) (later (b ++ entry 10 ids ∷ []) (text ops) (last_more 4 b (entry 10 ids)) free.1.1)
     )
 
 nodes_next : (k : Known) (f : Entry) (es : List Entry) → Spelled k es → SpelledNamed k (f ∷ es)

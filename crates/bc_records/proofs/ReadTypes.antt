@@ -1,7 +1,7 @@
 -- A type table without a fault is recorded, and is sound and in range.
 use mathlib.Core.Logic.{◌⊎◌, inl, inr}
-use Rattle.std.proofs.Common.{◌≡◌, ℕ, ◌+◌, ◌<◌, List, [], ◌∷◌, ◌++◌, map, length, refl, ap, sym, ◌∙◌, subst, arith}
-use Rattle.std.specs.Prelude.{Bool, true, false, not, cond, ◌==◌, ◌&&◌, ◌||◌, nat_eq, nat_le, drop, Option, None, Some, IsSome, is_some, option_and_then, slice_get, All}
+use Rattle.std.proofs.Common.{◌≡◌, ℕ, ◌+◌, ◌<◌, List, [], ◌∷◌, ◌++◌, map, length, refl, ap, sym, ◌∙◌, subst}
+use Rattle.std.specs.Prelude.{Bool, true, false, not, cond, ◌==◌, ◌&&◌, nat_eq, nat_le, drop, Option, Some, IsSome, is_some, option_and_then, slice_get, All}
 use Rattle.std.specs.List.{list_all, position_from}
 use Rattle.std.specs.Option.{option_map_or}
 use Rattle.std.proofs.lemmas.Bool.{and_parts, or_cases, both_ways, eqb-true}
@@ -11,10 +11,10 @@ use Rattle.ir_core.specs.declared.module.Ty.TheVariants.{Void, Metadata, Int, Po
 use Rattle.ir_core.specs.Values.{ty_eq, signature, number_of}
 use Rattle.ir_core.specs.Soundness.{IsSoundType}
 use Rattle.bc_stream.specs.Blocks.{Contents}
-use Rattle.bc_records.specs.Entries.{Entry, entry, entries_in, IsWord, IsText}
+use Rattle.bc_records.specs.Entries.{Entry, entry, entries_in, IsText}
 use Rattle.bc_records.specs.TypeRecords.{TypeRecord, number_of_entries, void_type, integer_type, pointer_type, metadata_type, struct_name, struct_type, function_type, type_entry, table_of, stated_numbers, IsTypeText, TypesRecorded}
 use Rattle.bc_records.specs.Ranges.{TypeInRange}
-use Rattle.bc_records.specs.Read.{word, words, read_type}
+use Rattle.bc_records.specs.Read.{word, read_type}
 use Rattle.bc_records.specs.RecordKinds.{Known, code_of, operand, counts, names, is_word, is_text, kind_if, kind_unless, has_code, has_entry, type_kinds, type_entries, signature_of_entry, signature_at, is_value_type_at, has_pointer_to}
 use Rattle.bc_records.proofs.Agreement.{is_value}
 use Rattle.bc_records.proofs.AgreeModule.{signature_same, value_type_same, pointer_found}
@@ -44,8 +44,8 @@ pointer_spelled n before ops free =
     let told = told_two (counts ops 2) (names n to && is_word space) 2 3 free in
     let parts = and_parts (names n to) (is_word space) told.1 in
     ap (entry 8) (
-      two_operands ops told.0
-      ∙ (ap (λ x. x ∷ space ∷ []) (sym (word_same to (told_name n to parts.0).1)) ∙ ap (λ x. word to ∷ x ∷ []) (sym (word_same space (told_word space parts.1))))
+    two_operands ops told.0
+    ∙ (ap (λ x. x ∷ space ∷ []) (sym (word_same to (told_name n to parts.0).1)) ∙ ap (λ x. word to ∷ x ∷ []) (sym (word_same space (told_word space parts.1))))
     )
 
 struct_spelled : (n : ℕ) (before : List Entry) (ops : List ℕ) → IsSpelled n before ops 20
@@ -53,8 +53,8 @@ struct_spelled n before ops free =
     let told = told_two (nat_le 1 (length ops)) ((operand ops 0 == 0) && list_all (names n) (drop 1 ops)) 2 3 free in
     let parts = and_parts (operand ops 0 == 0) (list_all (names n) (drop 1 ops)) told.1 in
     ap (entry 20) (
-      first_operands ops told.0
-      ∙ (ap (λ x. x ∷ drop 1 ops) (eqb-true (operand ops 0) 0 parts.0) ∙ ap (λ xs. 0 ∷ xs) (sym (words_same (drop 1 ops) (told_names n (drop 1 ops) parts.1).1)))
+    first_operands ops told.0
+    ∙ (ap (λ x. x ∷ drop 1 ops) (eqb-true (operand ops 0) 0 parts.0) ∙ ap (λ xs. 0 ∷ xs) (sym (words_same (drop 1 ops) (told_names n (drop 1 ops) parts.1).1)))
     )
 
 function_spelled : (n : ℕ) (before : List Entry) (ops : List ℕ) → IsSpelled n before ops 21

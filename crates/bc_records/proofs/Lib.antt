@@ -44,3 +44,4 @@ pub mod ReadCode
 pub mod HaveTypes
 pub mod ReadBodies
 pub mod ReadFunctions
+pub mod ReadModule

@@ -1,10 +1,9 @@
 -- Each value of a module, and of a body, has its type in the type table.
-use Rattle.std.proofs.Common.{◌≡◌, ℕ, zero, suc, ◌+◌, ◌<◌, ◌≤◌, List, [], ◌∷◌, ◌++◌, map, length, get_or, refl, ap, sym, ◌∙◌, subst, arith}
-use Rattle.std.specs.Prelude.{Bool, true, false, cond, ◌&&◌, ◌==◌, nat_eq, if◌then◌else◌, Some, None, Option, is_some, IsSome, IfSome, option_and_then, slice_get, All}
+use Rattle.std.proofs.Common.{◌≡◌, ℕ, zero, suc, ◌+◌, ◌<◌, List, [], ◌∷◌, map, length, get_or, refl, ap, sym, ◌∙◌, subst, arith}
+use Rattle.std.specs.Prelude.{Bool, true, false, cond, nat_eq, if◌then◌else◌, Some, None, Option, is_some, IsSome, IfSome, option_and_then, slice_get, All}
 use Rattle.std.specs.List.{filter, position_from}
 use Rattle.std.specs.Option.{option_map_or}
 use lib.Pointwise.{pointwise}
-use Rattle.std.proofs.lemmas.Bool.{true≢false}
 use Rattle.std.proofs.lemmas.Option.{none-some, same_Some, slice_get-get_or}
 use Rattle.std.proofs.lemmas.List.Elements.{All-nil, All-cons, All-head, All-tail}
 use Rattle.ir_core.specs.declared.instruction.Inst.{Inst}
@@ -14,10 +13,11 @@ use Rattle.ir_core.specs.declared.module.Ty.TheVariants.{Void, Label, Metadata, 
 use Rattle.ir_core.specs.declared.module.Const.{Const}
 use Rattle.ir_core.specs.declared.module.Function.{Function}
 use Rattle.ir_core.specs.declared.module.Module.{Module}
-use Rattle.ir_core.specs.Values.{Value, function_value, constant_value, parameter_value, instruction_value, name_eq, ty_eq, number_of, least_number, signature, signature_of, callee_signature, call_result, is_void, has_value, parameters, value_type, type_among, type_within}
+use Rattle.ir_core.specs.Values.{Value, function_value, constant_value, parameter_value, instruction_value, name_eq, ty_eq, number_of, least_number, signature_of, callee_signature, is_void, has_value, parameters, value_type, type_among, type_within}
 use Rattle.ir_core.specs.Soundness.{EachHasType, IsSoundType, Names}
 use Rattle.bc_records.specs.FirstList.{IsListedInst}
 use Rattle.bc_records.proofs.Tests.{equal, both, same_passes}
+use Rattle.std.proofs.lemmas.Bool.{true≢false}
 
 -- entries of the type table
 
@@ -138,6 +138,7 @@ result_typed types (Some s) some = by (slice_get types s.0) refl some
     value : (b : Bool) (k : ℕ) → is_some (slice_get types k) ≡ true → is_some (if b then None else Some k) ≡ true → is_some (option_and_then (least_number types) (if b then None else Some k)) ≡ true
     value true k at some = some
     value false k at some = least_some types k at
+
     by : (o : Option Ty) → slice_get types s.0 ≡ o → is_some (option_and_then (λ t. if is_void t then None else Some s.0) o) ≡ true →
         is_some (option_and_then (least_number types) (option_and_then (λ t. if is_void t then None else Some s.0) o)) ≡ true
     by None at some = some

@@ -1,9 +1,8 @@
 -- The blocks of a module, of a body and outside all blocks, where no place has a kind of fault.
-use Rattle.std.proofs.Common.{◌≡◌, ℕ, zero, suc, ◌+◌, ◌<◌, ◌≤◌, List, [], ◌∷◌, ◌++◌, length, get_or, refl, ap, sym, ◌∙◌, subst, arith}
-use Rattle.std.specs.Prelude.{Bool, true, false, ◌==◌, ◌||◌, ◌&&◌, if◌then◌else◌, nat_lt, nat_le, All, Contains}
+use Rattle.std.proofs.Common.{◌≡◌, ℕ, suc, ◌+◌, ◌<◌, ◌≤◌, List, [], ◌∷◌, ◌++◌, length, get_or, refl, ap, sym, ◌∙◌, subst, arith}
+use Rattle.std.specs.Prelude.{Bool, true, false, ◌==◌, ◌||◌, if◌then◌else◌, nat_lt, All, Contains}
 use Rattle.std.proofs.lemmas.List.{length-append}
 use Rattle.std.proofs.lemmas.List.Elements.{All-nil, All-cons, All-head, All-tail}
-use Rattle.std.proofs.lemmas.Bool.{true≢false, leb-false}
 use Rattle.bc_stream.specs.Blocks.{Contents, no_more, a_record, a_block, append}
 use Rattle.bc_records.specs.Entries.{Entry, entries_in, block_ids, blocks_in, block_count}
 use Rattle.bc_records.specs.FaultSites.{Site, site, IsFree, sites, sites_after}
@@ -14,9 +13,9 @@ use Rattle.bc_records.proofs.FreeSymbols.{joined}
 use Rattle.bc_records.proofs.FreeBlocks.{blocks_append, five}
 use Rattle.bc_records.proofs.SitesFree.{has_place, held_flat, held}
 use Rattle.bc_records.proofs.Tests.{Each}
-use Rattle.bc_records.proofs.Tells.{one_kind, unless_none, if_none, chosen, either_passes, is_equal, is_below}
-use Rattle.bc_records.proofs.Told.{Plain}
 use Rattle.bc_records.proofs.ReadSymbols.{PlainSymbols}
+use Rattle.std.proofs.lemmas.Bool.{eqb-true, leb-false, ltb-true, true≢false}
+use Rattle.bc_records.proofs.Told.{Plain, chosen, either_passes, told_if, told_unless}
 
 -- constants
 
@@ -32,8 +31,8 @@ constants_held known number block all =
 body_ids : (id : ℕ) → body_heads id ≡ [] → Contains (11 ∷ 14 ∷ 15 ∷ []) id
 body_ids id none =
     chosen ((id == 11) || ((id == 14) || (id == 15))) [] (misplaced id) none
-    (λ is here. either_passes (id == 11) ((id == 14) || (id == 15)) is (λ e. (0, omega arith, sym (is_equal id 11 e)))
-    (λ others. either_passes (id == 14) (id == 15) others (λ e. (1, omega arith, sym (is_equal id 14 e))) (λ e. (2, omega arith, sym (is_equal id 15 e)))))
+    (λ is here. either_passes (id == 11) ((id == 14) || (id == 15)) is (λ e. (0, omega arith, sym (eqb-true id 11 e)))
+    (λ others. either_passes (id == 14) (id == 15) others (λ e. (1, omega arith, sym (eqb-true id 14 e))) (λ e. (2, omega arith, sym (eqb-true id 15 e)))))
     (λ other rest. absurd (has_place id rest))
 
 -- a block of constants in a body
@@ -67,7 +66,7 @@ body_held known operands number block all =
     let numbers : Numbers = numbers_of known operands block in
     let h = held (body_table known numbers) number (suc number) no_more block all in
     let blocks = body_blocks_held known numbers (suc number) no_more block h.1 in
-    record { ids = blocks.0; constants = blocks.1; records = h.0; declared = unless_none (has_code 1 (entries_in block)) 1 h.2 }
+    record { ids = blocks.0; constants = blocks.1; records = h.0; declared = told_unless (has_code 1 (entries_in block)) 1 h.2 }
 
 -- modules
 
@@ -77,7 +76,7 @@ TypesHeld known block = Plain (λ before e after. type_kinds (length known.types
 types_held : (known : Known) (number : ℕ) (block : Contents) → All IsFree (sites (types_table known) number block) → TypesHeld known block
 types_held known number block all =
     let h = held_flat (λ before e after. type_kinds (length known.types) before e) (λ b. kind_unless (has_code 1 (entries_in b)) 1) number block all in
-    ((h.1, h.0), unless_none (has_code 1 (entries_in block)) 1 h.2)
+    ((h.1, h.0), told_unless (has_code 1 (entries_in block)) 1 h.2)
 
 abbrev pub MetadataHeld : Known → Contents → Type 0
 MetadataHeld known block = Plain (metadata_kinds known) block
@@ -216,14 +215,14 @@ known_ids known before id none =
     let types = kind_if (has_block 17 before) 6 in
     let bodies = kind_unless (nat_lt (bodies_before before) (body_count known)) 6 in
     chosen ((id == 11) || ((id == 14) || (id == 15))) [] (if id == 17 then types else if id == 12 then bodies else misplaced id) none
-    (λ is here. either_passes (id == 11) ((id == 14) || (id == 15)) is (λ e. (0, omega arith, sym (is_equal id 11 e)))
-    (λ others. either_passes (id == 14) (id == 15) others (λ e. (2, omega arith, sym (is_equal id 14 e))) (λ e. (3, omega arith, sym (is_equal id 15 e)))))
-    (λ other rest. chosen (id == 17) types (if id == 12 then bodies else misplaced id) rest (λ e here. (4, omega arith, sym (is_equal id 17 e)))
-    (λ no more. chosen (id == 12) bodies (misplaced id) more (λ e here. (1, omega arith, sym (is_equal id 12 e)))
+    (λ is here. either_passes (id == 11) ((id == 14) || (id == 15)) is (λ e. (0, omega arith, sym (eqb-true id 11 e)))
+    (λ others. either_passes (id == 14) (id == 15) others (λ e. (2, omega arith, sym (eqb-true id 14 e))) (λ e. (3, omega arith, sym (eqb-true id 15 e)))))
+    (λ other rest. chosen (id == 17) types (if id == 12 then bodies else misplaced id) rest (λ e here. (4, omega arith, sym (eqb-true id 17 e)))
+    (λ no more. chosen (id == 12) bodies (misplaced id) more (λ e here. (1, omega arith, sym (eqb-true id 12 e)))
     (λ not last. absurd (has_place id last))))
 
 body_counted : (known : Known) (before : Contents) → module_heads known before 12 ≡ [] → bodies_before before < body_count known
-body_counted known before none = is_below (bodies_before before) (body_count known) (unless_none (nat_lt (bodies_before before) (body_count known)) 6 none)
+body_counted known before none = ltb-true (bodies_before before) (body_count known) (told_unless (nat_lt (bodies_before before) (body_count known)) 6 none)
 
 -- whether there are fewer than two type tables so far
 once_so_far : (known : Known) (before inner : Contents) (id : ℕ) → Known_id id → module_heads known before id ≡ [] → length (blocks_in 17 before) ≤ 1 →
@@ -231,12 +230,14 @@ once_so_far : (known : Known) (before inner : Contents) (id : ℕ) → Known_id 
 once_so_far known before inner id has none so_far =
     five (λ x. module_heads known before x ≡ [] → length (blocks_in 17 (append before (a_block x inner no_more))) ≤ 1) id
     (λ h. plain (a_block 11 inner no_more) refl) (λ h. plain (a_block 12 inner no_more) refl) (λ h. plain (a_block 14 inner no_more) refl) (λ h. plain (a_block 15 inner no_more) refl)
-    (λ h. first (if_none (has_block 17 before) 6 h)) has none
+    (λ h. first (told_if (has_block 17 before) 6 h)) has none
   where
     long : (one : Contents) → length (blocks_in 17 (append before one)) ≡ length (blocks_in 17 before) + length (blocks_in 17 one)
     long one = ap length (blocks_append 17 before one) ∙ length-append (blocks_in 17 before) (blocks_in 17 one)
+
     plain : (one : Contents) → length (blocks_in 17 one) ≡ 0 → length (blocks_in 17 (append before one)) ≤ 1
     plain one empty = omega (arith, long one, empty, so_far)
+
     first : has_block 17 before ≡ false → length (blocks_in 17 (append before (a_block 17 inner no_more))) ≤ 1
     first none = let low : length (blocks_in 17 before) < 1 = leb-false 1 (length (blocks_in 17 before)) none in omega (arith, long (a_block 17 inner no_more), low)
 
@@ -268,7 +269,7 @@ module_blocks_held known first before (a_block id inner rest) once free =
 
 outer_id : (before : Contents) (id : ℕ) → outer_heads before id ≡ [] → (id ≡ 8) × (has_block 8 before ≡ false)
 outer_id before id none =
-    chosen (id == 8) (kind_if (has_block 8 before) 6) (misplaced id) none (λ e here. (is_equal id 8 e, if_none (has_block 8 before) 6 here)) (λ other rest. absurd (has_place id rest))
+    chosen (id == 8) (kind_if (has_block 8 before) 6) (misplaced id) none (λ e here. (eqb-true id 8 e, told_if (has_block 8 before) 6 here)) (λ other rest. absurd (has_place id rest))
 
 -- after a block MODULE stands no other
 nothing_after : (first : ℕ) (before rest : Contents) → has_block 8 before ≡ true → entries_in rest ≡ [] → FreeBlocks outer_table first before rest → rest ≡ no_more
@@ -299,7 +300,7 @@ pub one_block_held : (c : Contents) → entries_in c ≡ [] → All IsFree (reco
 one_block_held c none all =
     let own : Site = site 0 0 (kind_unless (has_block 8 c) 1) in
     let others : List Site = sites_after outer_table 0 0 no_more c in
-    one_block c none (unless_none (has_block 8 c) 1 (All-head IsFree own others all)) (held outer_table 0 0 no_more c (All-tail IsFree own others all)).1
+    one_block c none (told_unless (has_block 8 c) 1 (All-head IsFree own others all)) (held outer_table 0 0 no_more c (All-tail IsFree own others all)).1
 
 -- what a module holds
 pub record ModuleHeld (inner : Contents) : Type 0 where
@@ -311,4 +312,4 @@ pub module_held : (inner : Contents) → All IsFree (sites (module_table (known_
 module_held inner all =
     let known : Known = known_of inner in
     let h = held (module_table known) 0 1 no_more inner all in
-    record { records = h.0; blocks = module_blocks_held known 1 no_more inner (omega arith) h.1; complete = unless_none (is_complete known inner) 1 h.2 }
+    record { records = h.0; blocks = module_blocks_held known 1 no_more inner (omega arith) h.1; complete = told_unless (is_complete known inner) 1 h.2 }

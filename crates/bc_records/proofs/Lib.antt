@@ -21,7 +21,6 @@ pub mod OneModule
 pub mod Tests
 pub mod FreeSites
 pub mod SitesFree
-pub mod Tells
 pub mod HeldBlocks
 pub mod FreeTypes
 pub mod FreeConstants
@@ -45,3 +44,4 @@ pub mod HaveTypes
 pub mod ReadBodies
 pub mod ReadFunctions
 pub mod ReadModule
+pub mod ReadBlocks

@@ -1,6 +1,6 @@
 -- A block FUNCTION without a fault holds a body, which is sound and in range.
-use Rattle.std.proofs.Common.{◌≡◌, ℕ, zero, suc, ◌+◌, ◌-◌, ◌<◌, ◌≤◌, List, [], ◌∷◌, ◌++◌, map, length, refl, ap, sym, ◌∙◌, subst, arith}
-use Rattle.std.specs.Prelude.{Bool, true, false, if◌then◌else◌, Some, None, Option, slice_get, replicate, flat_map, All}
+use Rattle.std.proofs.Common.{◌≡◌, ℕ, zero, suc, ◌+◌, ◌-◌, ◌≤◌, List, [], ◌∷◌, ◌++◌, map, length, refl, ap, sym, ◌∙◌, subst, arith}
+use Rattle.std.specs.Prelude.{Bool, true, false, if◌then◌else◌, Some, slice_get, replicate, flat_map, All}
 use Rattle.std.specs.List.{filter}
 use Rattle.std.specs.Option.{option_map_or}
 use Rattle.std.proofs.lemmas.List.{length-append, length-map, length-replicate}
@@ -12,24 +12,22 @@ use Rattle.ir_core.specs.declared.module.Const.{Const}
 use Rattle.ir_core.specs.declared.module.Function.{Function}
 use Rattle.ir_core.specs.declared.module.Module.{Module}
 use Rattle.ir_core.specs.Values.{constant_value, parameter_value, instruction_value, parameters, module_values, body_values, instructions, has_value}
-use Rattle.ir_core.specs.Soundness.{IsSoundInst, IsSoundBody, IsSoundType, Names, ends_block}
+use Rattle.ir_core.specs.Soundness.{IsSoundInst, IsSoundBody, IsSoundType, ends_block}
 use Rattle.bc_stream.specs.Blocks.{Contents}
 use Rattle.bc_records.specs.Entries.{Entry, entries_in, blocks_in, IsWord}
-use Rattle.bc_records.specs.ConstantRecords.{constants_of}
 use Rattle.bc_records.specs.BodyRecords.{BodyRecord, body_entry, first_value, instruction_records, InstructionsRecorded, filled_blocks, before_first, BodyRecorded}
 use Rattle.bc_records.specs.RecordKinds.{Known, Numbers, numbers_of, constant_kinds, constants_in, all_of, first_operand, next_after, has_code}
 use Rattle.bc_records.specs.Ranges.{InstInRange, BlockInRange, BodyInRange}
-use Rattle.bc_records.specs.Read.{word, read_constants, read_constant, read_instructions, read_count, block_of, up_to, read_body}
+use Rattle.bc_records.specs.Read.{word, read_constants, read_instructions, read_count, block_of, up_to, read_body}
 use Rattle.bc_records.proofs.Agreement.{Agrees}
 use Rattle.bc_records.proofs.FreeBodies.{values_long}
 use Rattle.bc_records.proofs.NoRecordFault.{params_long, values_count}
 use Rattle.bc_records.proofs.Tests.{Each}
-use Rattle.bc_records.proofs.Told.{Plain}
 use Rattle.bc_records.proofs.ReadConstants.{ConstantsTold, constants_told}
 use Rattle.bc_records.proofs.HeldBlocks.{BodyHeld}
-use Rattle.bc_records.proofs.ReadRecords.{word_same}
 use Rattle.bc_records.proofs.ReadCode.{FreeBody, body_spelled, Number, one_number, CodeTold, code_told, room_told, insts_fit, insts_listed}
 use Rattle.bc_records.proofs.HaveTypes.{HasType, have_types, constants_typed, parameters_typed, parameters_named, insts_typed}
+use Rattle.bc_records.proofs.Told.{Plain, word_same}
 
 -- blocks of instructions
 
@@ -45,6 +43,7 @@ filled_join (inst ∷ insts) = by (ends_block inst) ∙ ap (λ is. inst ∷ is) 
     first : (bs : List (List Inst)) → flat_map (λ (b : List Inst). b) (before_first inst bs) ≡ inst ∷ flat_map (λ (b : List Inst). b) bs
     first [] = refl
     first (b ∷ bs) = refl
+
     by : (t : Bool) → flat_map (λ (b : List Inst). b) (if t then (inst ∷ []) ∷ filled_blocks insts else before_first inst (filled_blocks insts)) ≡ inst ∷ flat_map (λ (b : List Inst). b) (filled_blocks insts)
     by true = refl
     by false = first (filled_blocks insts)

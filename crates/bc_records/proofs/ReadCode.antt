@@ -1,10 +1,8 @@
 -- What the records of a body without a fault say: its instructions.
-use mathlib.Core.Logic.{◌⊎◌, inl, inr}
-use Rattle.std.proofs.Common.{◌≡◌, ℕ, zero, suc, ◌+◌, ◌-◌, ◌/◌, ◌%◌, ◌^◌, ◌<◌, ◌≤◌, List, [], ◌∷◌, ◌++◌, map, length, refl, ap, sym, ◌∙◌, subst, arith}
-use Rattle.std.specs.Prelude.{Bool, true, false, ◌&&◌, ◌||◌, ◌==◌, if◌then◌else◌, nat_le, nat_lt, Some, None, Option, is_some, option_map, option_and_then, slice_get, drop, MatchOption, All, flat_map}
-use Rattle.std.specs.List.{list_all, filter}
+use Rattle.std.proofs.Common.{◌≡◌, ℕ, suc, ◌+◌, ◌/◌, ◌%◌, ◌^◌, ◌<◌, ◌≤◌, List, [], ◌∷◌, ◌++◌, map, length, refl, ap, sym, ◌∙◌, subst, arith}
+use Rattle.std.specs.Prelude.{Bool, true, false, ◌&&◌, ◌==◌, if◌then◌else◌, nat_le, nat_lt, Some, None, Option, is_some, option_map, option_and_then, slice_get, drop, MatchOption, All}
+use Rattle.std.specs.List.{list_all}
 use Rattle.std.specs.Option.{option_map_or}
-use Rattle.std.proofs.lemmas.Bool.{true≢false}
 use Rattle.std.proofs.lemmas.Option.{none-some, same_Some}
 use lib.Pointwise.{pointwise}
 use Rattle.std.proofs.lemmas.List.{length-map}
@@ -15,20 +13,20 @@ use Rattle.ir_core.specs.declared.module.Ty.{Ty}
 use Rattle.ir_core.specs.declared.module.Ty.TheVariants.{Void, Label, Metadata, Int, Pointer, Array, Vector, Struct, Function as FunctionType}
 use Rattle.ir_core.specs.declared.module.Function.{Function}
 use Rattle.ir_core.specs.declared.module.Module.{Module}
-use Rattle.ir_core.specs.Values.{signature, signature_of, callee_signature, has_value, function_at}
+use Rattle.ir_core.specs.Values.{signature_of, function_at}
 use Rattle.ir_core.specs.Soundness.{IsSoundInst, Names, Takes}
 use Rattle.bc_records.specs.Entries.{Entry, entry, IsWord}
-use Rattle.bc_records.specs.BodyRecords.{BodyRecord, declare_blocks, return_record, call_record, body_entry, declared_blocks, absolute, IsTypeOf, instruction_records, InstructionsRecorded, filled_blocks, before_first, next_value}
-use Rattle.bc_records.specs.RecordKinds.{Known, Numbers, counts, operand, first_operand, has_code, count_code, code_of, kind_if, kind_unless, is_word, signature_at, function_type_at, same_signature, same_type, entry_has_value, next_after, names_operand, called_signature, call_counts, call_names, is_past, body_kinds}
+use Rattle.bc_records.specs.BodyRecords.{BodyRecord, declare_blocks, return_record, call_record, body_entry, declared_blocks, absolute, instruction_records, InstructionsRecorded, filled_blocks, before_first, next_value}
+use Rattle.bc_records.specs.RecordKinds.{Known, Numbers, counts, operand, first_operand, has_code, count_code, kind_if, kind_unless, is_word, signature_at, function_type_at, same_signature, same_type, next_after, names_operand, called_signature, call_counts, call_names, is_past, body_kinds}
 use Rattle.bc_records.specs.Ranges.{InstInRange, AreWords}
-use Rattle.bc_records.specs.Read.{word, words, read_instructions, read_count}
+use Rattle.bc_records.specs.Read.{word, words, read_instructions}
 use Rattle.bc_records.specs.FirstList.{IsListedInst}
 use Rattle.bc_records.proofs.Agreement.{Agrees, callee}
 use Rattle.bc_records.proofs.FreeSites.{FreeRecords}
-use Rattle.bc_records.proofs.FreeBodies.{SoundCall, value_same, next_more, fill_more}
+use Rattle.bc_records.proofs.FreeBodies.{SoundCall, value_same, next_more}
 use Rattle.bc_records.proofs.Tests.{both_none, code_stays, count_more}
-use Rattle.bc_records.proofs.Tells.{one_kind, unless_none, if_none, chosen, parts_pass, is_equal, is_below, is_same, not_past, all_told, word_told, no_operands, one_operand, Four, four_operands, spelled_by, code_here}
-use Rattle.bc_records.proofs.ReadRecords.{word_same, words_same}
+use Rattle.std.proofs.lemmas.Bool.{and_parts, eqb-true, leb-false, ltb-true, true≢false}
+use Rattle.bc_records.proofs.Told.{chosen, code_here, four_operands, is_same, no_operands, one_operand, some_kind, spelled_by, told_if, told_unless, told_word, word_same, words_same}
 
 abbrev pub FreeBody : Known → Numbers → List Entry → List Entry → Type 0
 FreeBody known numbers before es = FreeRecords (λ b e after. body_kinds known numbers b e) before es
@@ -37,7 +35,7 @@ FreeBody known numbers before es = FreeRecords (λ b e after. body_kinds known n
 
 counts_four : (o : Option (ℕ × List ℕ)) (ops : List ℕ) (otherwise : Bool) → is_some o ≡ true → option_map_or (λ (s : ℕ × List ℕ). counts ops (4 + length s.1)) o otherwise ≡ true → 4 ≤ length ops
 counts_four None ops otherwise some h = absurd (true≢false (sym some))
-counts_four (Some s) ops otherwise some h = omega (arith, is_equal (length ops) (4 + length s.1) h)
+counts_four (Some s) ops otherwise some h = omega (arith, eqb-true (length ops) (4 + length s.1) h)
 
 call_is : (known : Known) (next values code : ℕ) (ops rest : List ℕ) → code ≡ 34 →
     kind_unless (call_counts known next ops) 2 ++ (kind_unless (call_names known values next ops) 3 ++ rest) ≡ [] → (r : BodyRecord) × (entry code ops ≡ body_entry r)
@@ -45,14 +43,13 @@ call_is known next values code ops rest is none =
     let two = kind_unless (call_counts known next ops) 2 in
     let three = kind_unless (call_names known values next ops) 3 in
     let apart = both_none two (three ++ rest) none in
-    let names = unless_none (call_names known values next ops) 3 (both_none three rest apart.1).0 in
+    let names = told_unless (call_names known values next ops) 3 (both_none three rest apart.1).0 in
     let same = option_map_or (same_type known (operand ops 2)) (function_type_at known (absolute next (operand ops 3))) false in
     let args = list_all (names_operand values next) (drop 4 ops) in
-    let some = (parts_pass (is_some (called_signature known next ops)) (same && args) (parts_pass (is_word (operand ops 3)) (is_some (called_signature known next ops) && (same && args)) names).1).0 in
+    let some = (and_parts (is_some (called_signature known next ops)) (same && args) (and_parts (is_word (operand ops 3)) (is_some (called_signature known next ops) && (same && args)) names).1).0 in
     let long = counts_four (called_signature known next ops) ops (if nat_le next (absolute next (operand ops 3)) then nat_le 5 (length ops) else nat_le 4 (length ops)) some
-    (unless_none (call_counts known next ops) 2 apart.0) in
-    let f : Four ops = four_operands ops long in
-    (call_record f.a f.b f.c f.d f.others, ap (λ c. entry c ops) is ∙ ap (entry 34) f.are)
+    (told_unless (call_counts known next ops) 2 apart.0) in
+    (call_record (operand ops 0) (operand ops 1) (operand ops 2) (operand ops 3) (drop 4 ops), ap (λ c. entry c ops) is ∙ ap (entry 34) (four_operands ops long))
 
 body_one : (known : Known) (numbers : Numbers) (before : List Entry) (e : Entry) (after : List Entry) → body_kinds known numbers before e ≡ [] → (r : BodyRecord) × (e ≡ body_entry r)
 body_one known numbers before (entry code ops) after none =
@@ -64,11 +61,11 @@ body_one known numbers before (entry code ops) after none =
     let ten = kind_unless (counts ops 0) 2 ++ past in
     chosen (code == 1) (kind_unless (counts ops 1) 2 ++ one) (if code == 10 then ten else if code == 34 then call else 8 ∷ []) none
     (λ is here.
-      let ops_are = one_operand ops (unless_none (counts ops 1) 2 (both_none (kind_unless (counts ops 1) 2) one here).0) in
-      (declare_blocks ops_are.0, ap (λ c. entry c ops) (is_equal code 1 is) ∙ ap (entry 1) ops_are.1))
+    let ops_are = one_operand ops (told_unless (counts ops 1) 2 (both_none (kind_unless (counts ops 1) 2) one here).0) in
+    (declare_blocks (operand ops 0), ap (λ c. entry c ops) (eqb-true code 1 is) ∙ ap (entry 1) ops_are))
     (λ no rest. chosen (code == 10) ten (if code == 34 then call else 8 ∷ []) rest
-    (λ is here. (return_record, ap (λ c. entry c ops) (is_equal code 10 is) ∙ ap (entry 10) (no_operands ops (unless_none (counts ops 0) 2 (both_none (kind_unless (counts ops 0) 2) past here).0))))
-    (λ not more. chosen (code == 34) call (8 ∷ []) more (λ is here. call_is known next numbers.values code ops last (is_equal code 34 is) here) (λ other end. one_kind 8 [] end)))
+    (λ is here. (return_record, ap (λ c. entry c ops) (eqb-true code 10 is) ∙ ap (entry 10) (no_operands ops (told_unless (counts ops 0) 2 (both_none (kind_unless (counts ops 0) 2) past here).0))))
+    (λ not more. chosen (code == 34) call (8 ∷ []) more (λ is here. call_is known next numbers.values code ops last (eqb-true code 34 is) here) (λ other end. some_kind 8 [] end)))
 
 pub body_spelled : (known : Known) (numbers : Numbers) (es : List Entry) → FreeBody known numbers [] es → (rs : List BodyRecord) × (es ≡ map body_entry rs)
 body_spelled known numbers es free = spelled_by body_entry (λ b e after. body_kinds known numbers b e) (body_one known numbers) [] es free
@@ -78,7 +75,7 @@ body_spelled known numbers es free = spelled_by body_entry (λ b e after. body_k
 free_declared : (known : Known) (numbers : Numbers) (before : List Entry) (n : ℕ) → body_kinds known numbers before (entry 1 (n ∷ [])) ≡ [] → IsWord n × (has_code 1 before ≡ false)
 free_declared known numbers before n none =
     let apart = both_none (kind_unless (is_word n) 3) (kind_if (has_code 1 before) 6) none in
-    (word_told n (unless_none (is_word n) 3 apart.0), if_none (has_code 1 before) 6 apart.1)
+    (told_word n (told_unless (is_word n) 3 apart.0), told_if (has_code 1 before) 6 apart.1)
 
 no_number : (known : Known) (numbers : Numbers) (before : List Entry) (rs : List BodyRecord) → has_code 1 before ≡ true → FreeBody known numbers before (map body_entry rs) → declared_blocks rs ≡ []
 no_number known numbers before [] has free = refl
@@ -109,7 +106,7 @@ one_number known numbers before (call_record a b c d e ∷ rs) has free =
 signature_is : (o : Option (ℕ × List ℕ)) (ops : List ℕ) (n : ℕ) (otherwise : Bool) → is_some o ≡ true → length ops ≡ 4 + n →
     option_map_or (λ (s : ℕ × List ℕ). counts ops (4 + length s.1)) o otherwise ≡ true → MatchOption o ⊥ (λ s. length s.1 ≡ n)
 signature_is None ops n otherwise some long h = absurd (true≢false (sym some))
-signature_is (Some s) ops n otherwise some long h = omega (arith, is_equal (length ops) (4 + length s.1) h, long)
+signature_is (Some s) ops n otherwise some long h = omega (arith, eqb-true (length ops) (4 + length s.1) h, long)
 
 -- an entry of the type table with a signature is that function type
 type_of_signature : (o : Option Ty) (s : ℕ × List ℕ) → option_and_then signature_of o ≡ Some s → o ≡ Some (FunctionType s.0 s.1)
@@ -130,8 +127,8 @@ same_signature_told : (p q : Option (ℕ × List ℕ)) → same_signature p q �
 same_signature_told None q h = absurd (true≢false (sym h))
 same_signature_told (Some a) None h = absurd (true≢false (sym h))
 same_signature_told (Some a) (Some b) h =
-    let apart = parts_pass (a.0 == b.0) (pointwise (λ x y. x == y) a.1 b.1) h in
-    let first : a.0 ≡ b.0 = is_equal a.0 b.0 apart.0 in
+    let apart = and_parts (a.0 == b.0) (pointwise (λ x y. x == y) a.1 b.1) h in
+    let first : a.0 ≡ b.0 = eqb-true a.0 b.0 apart.0 in
     let second : a.1 ≡ b.1 = is_same a.1 b.1 apart.1 in
     (a, refl, sym (pair_same a b first second))
   where
@@ -149,11 +146,11 @@ type_told known m a ty (Some f) h =
 args_told : (values next : ℕ) (args : List ℕ) → list_all (names_operand values next) args ≡ true → All IsWord args × All (Names values) (map (absolute next) args)
 args_told values next [] h = (All-nil IsWord, All-nil (Names values))
 args_told values next (x ∷ xs) h =
-    let apart = parts_pass (names_operand values next x) (list_all (names_operand values next) xs) h in
-    let own = parts_pass (is_word x) (nat_lt (absolute next x) values) apart.0 in
+    let apart = and_parts (names_operand values next x) (list_all (names_operand values next) xs) h in
+    let own = and_parts (is_word x) (nat_lt (absolute next x) values) apart.0 in
     let more = args_told values next xs apart.1 in (
-      All-cons IsWord x xs (word_told x own.0) more.0,
-      All-cons (Names values) (absolute next x) (map (absolute next) xs) (is_below (absolute next x) values own.1) more.1,
+      All-cons IsWord x xs (told_word x own.0) more.0,
+      All-cons (Names values) (absolute next x) (map (absolute next) xs) (ltb-true (absolute next x) values own.1) more.1,
     )
 
 -- what is told of a CALL
@@ -178,21 +175,21 @@ call_told known m a numbers before attributes convention ty function args none =
     let some : Bool = is_some (called_signature known next ops) in
     let typed : Bool = option_map_or (same_type known ty) (function_type_at known (absolute next function)) false in
     let named : Bool = list_all (names_operand numbers.values next) args in
-    let names = parts_pass (is_word function) (some && (typed && named)) (unless_none (call_names known numbers.values next ops) 3 second.0) in
-    let more = parts_pass some (typed && named) names.1 in
-    let last = parts_pass typed named more.1 in
+    let names = and_parts (is_word function) (some && (typed && named)) (told_unless (call_names known numbers.values next ops) 3 second.0) in
+    let more = and_parts some (typed && named) names.1 in
+    let last = and_parts typed named more.1 in
     let own = args_told numbers.values next args last.1 in
     let takes = signature_is (called_signature known next ops) ops (length args)
-    (if nat_le next (absolute next function) then nat_le 5 (length ops) else nat_le 4 (length ops)) more.0 (omega arith) (unless_none (call_counts known next ops) 2 first.0) in
+    (if nat_le next (absolute next function) then nat_le 5 (length ops) else nat_le 4 (length ops)) more.0 (omega arith) (told_unless (call_counts known next ops) 2 first.0) in
     record {
       sound = record {
         takes = subst (λ o. MatchOption o ⊥ (λ s. length s.1 ≡ length args)) (callee known m a (absolute next function)) takes;
         named = own.1;
         typed = type_told known m a ty (function_at m (absolute next function)) (sym (ap (λ o. option_map_or (same_type known ty) o false) (a.function_types (absolute next function))) ∙ last.0);
-        words = All-cons IsWord function args (word_told function names.0) own.0;
+        words = All-cons IsWord function args (told_word function names.0) own.0;
       };
-      bit = is_equal (convention / 2 ^ 15 % 2) 1 (unless_none (convention / 2 ^ 15 % 2 == 1) 8 third.1);
-      open_block = if_none (is_past numbers.blocks before) 6 third.0;
+      bit = eqb-true (convention / 2 ^ 15 % 2) 1 (told_unless (convention / 2 ^ 15 % 2 == 1) 8 third.1);
+      open_block = told_if (is_past numbers.blocks before) 6 third.0;
     }
 
 -- instructions
@@ -247,7 +244,7 @@ module _ (known : Known) (m outline : Module) (a : Agrees known m) (o : Agrees k
 -- blocks
 
 is_open : (blocks : Option ℕ) (n : ℕ) (before : List Entry) → blocks ≡ Some n → is_past blocks before ≡ false → count_code 10 before < n
-is_open blocks n before said past = not_past n (count_code 10 before) (sym (ap (λ o. is_past o before) said) ∙ past)
+is_open blocks n before said past = leb-false n (count_code 10 before) (sym (ap (λ o. is_past o before) said) ∙ past)
 
 -- no more blocks are filled than are declared
 pub room_told : (known : Known) (outline : Module) (numbers : Numbers) (n : ℕ) (before : List Entry) (rs : List BodyRecord) (next : ℕ) → numbers.blocks ≡ Some n → count_code 10 before ≤ n →
@@ -258,7 +255,7 @@ room_told known outline numbers n before (declare_blocks k ∷ rs) next said low
     omega (arith, count_more 10 before (e ∷ []), room_told known outline numbers n (before ++ e ∷ []) rs next said (omega (arith, low, count_more 10 before (e ∷ []))) free.1)
 room_told known outline numbers n before (return_record ∷ rs) next said low free =
     let e : Entry = entry 10 [] in
-    let less : count_code 10 before < n = is_open numbers.blocks n before said (if_none (is_past numbers.blocks before) 6 free.0) in
+    let less : count_code 10 before < n = is_open numbers.blocks n before said (told_if (is_past numbers.blocks before) 6 free.0) in
     omega (arith, count_more 10 before (e ∷ []), room_told known outline numbers n (before ++ e ∷ []) rs next said (omega (arith, less, count_more 10 before (e ∷ []))) free.1)
 room_told known outline numbers n before (call_record attributes convention ty function args ∷ rs) next said low free =
     let ops : List ℕ = attributes ∷ convention ∷ ty ∷ function ∷ args in
@@ -269,7 +266,7 @@ room_told known outline numbers n before (call_record attributes convention ty f
     let six = kind_if (is_past numbers.blocks before) 6 in
     let eight = kind_unless (convention / 2 ^ 15 % 2 == 1) 8 in
     let past = (both_none six eight (both_none three (six ++ eight) (both_none two (three ++ (six ++ eight)) free.0).1).1).0 in
-    let less : count_code 10 before < n = is_open numbers.blocks n before said (if_none (is_past numbers.blocks before) 6 past) in
+    let less : count_code 10 before < n = is_open numbers.blocks n before said (told_if (is_past numbers.blocks before) 6 past) in
     let call : Inst = Call (absolute next (word function)) (map (absolute next) (words args)) in
     let insts : List Inst = read_instructions outline (next_value outline next call) (map body_entry rs) in
     most call (filled_blocks insts) less

@@ -1,32 +1,30 @@
 -- The functions of a module without a fault: their types, names and bodies.
-use Rattle.std.proofs.Common.{◌≡◌, ℕ, zero, suc, ◌+◌, ◌-◌, ◌<◌, ◌≤◌, List, [], ◌∷◌, ◌++◌, map, length, get_or, refl, ap, sym, ◌∙◌, subst, arith}
+use Rattle.std.proofs.Common.{◌≡◌, ℕ, zero, suc, ◌+◌, ◌-◌, ◌≤◌, List, [], ◌∷◌, map, length, get_or, refl, ap, sym, ◌∙◌, subst, arith}
 use Rattle.std.specs.Prelude.{Bool, true, false, ◌==◌, ◌&&◌, if◌then◌else◌, Some, None, Option, is_some, IfSome, option_map, option_and_then, slice_get, drop, All}
 use Rattle.std.specs.Option.{option_map_or}
-use Rattle.std.proofs.lemmas.Bool.{eqb-false}
 use Rattle.std.proofs.lemmas.Option.{same_Some}
 use Rattle.std.proofs.lemmas.List.Elements.{All-nil, All-cons, All-head, All-tail}
 use Rattle.ir_core.specs.declared.instruction.Body.{Body}
 use Rattle.ir_core.specs.declared.module.Function.{Function}
 use Rattle.ir_core.specs.declared.module.Module.{Module}
-use Rattle.ir_core.specs.Values.{function_at, module_values, bodies}
+use Rattle.ir_core.specs.Values.{function_at, bodies}
 use Rattle.ir_core.specs.Soundness.{IsSoundBody}
 use Rattle.bc_stream.specs.Blocks.{Contents}
 use Rattle.bc_records.specs.Entries.{IsWord, IsText}
 use Rattle.bc_records.specs.ModuleRecords.{ModuleRecord, version_record, triple_record, layout_record, function_record, module_entry, declarations, declaration_of, prototype_of}
 use Rattle.bc_records.specs.SymbolRecords.{SymbolRecord, symbol}
 use Rattle.bc_records.specs.BodyRecords.{BodiesRecorded}
-use Rattle.bc_records.specs.RecordKinds.{Known, is_word, signature_at, has_pointer_to, is_function_type, function_entries, has_body, with_bodies, module_value_count}
-use Rattle.bc_records.specs.RecordFaults.{body_count}
+use Rattle.bc_records.specs.RecordKinds.{Known, is_word, signature_at, has_pointer_to, is_function_type, function_entries, has_body, with_bodies}
 use Rattle.bc_records.specs.Ranges.{BodyInRange, FunctionInRange}
-use Rattle.bc_records.specs.Read.{word, declared, with_name, with_names, read_body, with_first, with_code}
+use Rattle.bc_records.specs.Read.{declared, with_name, with_names, read_body, with_first, with_code}
 use Rattle.bc_records.proofs.Agreement.{Agrees}
 use Rattle.bc_records.proofs.FreeModules.{Declared}
 use Rattle.bc_records.proofs.ValueLemmas.{from_globals, value_count}
-use Rattle.bc_records.proofs.Tells.{parts_pass, word_told, is_equal}
 use Rattle.bc_records.proofs.ReadTypes.{TypesTold}
 use Rattle.bc_records.proofs.HeldBlocks.{BodyHeld, EachBodyHeld}
-use Rattle.bc_records.proofs.ReadRecords.{word_same}
 use Rattle.bc_records.proofs.ReadBodies.{BodyTold, Around, body_told}
+use Rattle.std.proofs.lemmas.Bool.{and_parts, eqb-false, eqb-true}
+use Rattle.bc_records.proofs.Told.{told_word, word_same}
 
 -- functions with the types of their records
 abbrev pub Typed : List (List ℕ) → List Function → Type 0
@@ -48,7 +46,7 @@ bare_declared known (version_record ∷ rs) all = bare_declared known rs all
 bare_declared known (triple_record t ∷ rs) all = bare_declared known rs all
 bare_declared known (layout_record t ∷ rs) all = bare_declared known rs all
 bare_declared known (function_record ty convention prototype linkage others ∷ rs) all =
-    let fits : IsWord ty = word_told ty (parts_pass (is_word ty) (is_some (signature_at known ty) && has_pointer_to known ty) all.0).0 in
+    let fits : IsWord ty = told_word ty (and_parts (is_word ty) (is_some (signature_at known ty) && has_pointer_to known ty) all.0).0 in
     (ap Some (sym (word_same ty fits)), refl, bare_declared known rs all.2)
 
 bare_name : (xs : List (List ℕ)) (fs : List Function) (value : ℕ) (name : List ℕ) → Bare xs fs → Bare xs (with_name fs value name)
@@ -96,6 +94,7 @@ names_code m (x ∷ xs) (f ∷ fs) blocks bare = by (has_body x) (names_code m x
   where
     name : Function → List ℕ
     name f = f.name
+
     by : (b : Bool) → map (λ (f : Function). f.name) (with_code m xs fs (drop 1 blocks)) ≡ map (λ (f : Function). f.name) fs →
         map (λ (f : Function). f.name) (with_code m xs fs blocks) ≡ map (λ (f : Function). f.name) fs →
         map (λ (f : Function). f.name) (if b then with_first m f blocks ∷ with_code m xs fs (drop 1 blocks) else f ∷ with_code m xs fs blocks) ≡ f.name ∷ map (λ (f : Function). f.name) fs
@@ -169,10 +168,11 @@ declared_code known m (triple_record t ∷ rs) fs blocks all bare long = declare
 declared_code known m (layout_record t ∷ rs) fs blocks all bare long = declared_code known m rs fs blocks all bare long
 declared_code known m (function_record ty a prototype c d ∷ rs) [] blocks all bare long = absurd bare
 declared_code known m (function_record ty a prototype c d ∷ rs) (f ∷ fs) blocks all bare long =
-    by (prototype == 0) (is_equal prototype 0) (low_number prototype all.1) blocks long (λ bs same. declared_code known m rs fs bs all.2 bare.2 same)
+    by (prototype == 0) (eqb-true prototype 0) (low_number prototype all.1) blocks long (λ bs same. declared_code known m rs fs bs all.2 bare.2 same)
   where
     own : ty ≡ f.ty
     own = same_Some ty f.ty bare.0
+
     by : (b : Bool) → (b ≡ true → prototype ≡ 0) → (b ≡ false → prototype ≡ 1) → (blocks : List Contents) →
         length blocks ≡ length (if b then (ty ∷ a ∷ prototype ∷ c ∷ d) ∷ with_bodies (function_entries (map module_entry rs)) else with_bodies (function_entries (map module_entry rs))) →
         ((bs : List Contents) → length bs ≡ length (with_bodies (function_entries (map module_entry rs))) → declarations rs ≡ map declaration_of (with_code m (function_entries (map module_entry rs)) fs bs)) →

@@ -1,16 +1,15 @@
 -- A block list without a fault records the module that it says.
-use Rattle.std.proofs.Common.{◌≡◌, ℕ, suc, ◌+◌, ◌<◌, ◌≤◌, List, [], ◌∷◌, ◌++◌, map, length, get_or, refl, ap, sym, ◌∙◌, subst, arith}
-use Rattle.std.specs.Prelude.{Bool, true, false, ◌&&◌, ◌==◌, if◌then◌else◌, nat_lt, nat_le, is_some, IsSome, All}
+use Rattle.std.proofs.Common.{◌≡◌, ℕ, suc, ◌+◌, ◌<◌, ◌≤◌, List, [], ◌∷◌, map, length, get_or, refl, ap, sym, ◌∙◌, subst, arith}
+use Rattle.std.specs.Prelude.{Bool, true, false, ◌&&◌, ◌==◌, if◌then◌else◌, nat_le, is_some, IsSome, All}
 use Rattle.std.proofs.lemmas.List.Elements.{All-nil, All-cons, All-append, All-map}
 use Rattle.ir_core.specs.declared.module.Ty.TheVariants.{Pointer}
 use Rattle.ir_core.specs.declared.module.Function.{Function}
 use Rattle.ir_core.specs.declared.module.GlobalVar.{GlobalVar}
-use Rattle.ir_core.specs.declared.module.Meta.{Meta}
 use Rattle.ir_core.specs.declared.module.Named.{Named}
 use Rattle.ir_core.specs.declared.module.Module.{Module}
 use Rattle.ir_core.specs.Values.{function_value, constant_value, signature, module_values, bodies, number_of}
 use Rattle.ir_core.specs.Soundness.{IsSound, IsSoundMeta, IsAlignment, Names}
-use Rattle.bc_stream.specs.Blocks.{Contents, no_more, a_record, a_block}
+use Rattle.bc_stream.specs.Blocks.{Contents, no_more, a_block}
 use Rattle.bc_records.specs.Entries.{Entry, entries_in, blocks_in, IsWord, IsText}
 use Rattle.bc_records.specs.FaultSites.{IsFree}
 use Rattle.bc_records.specs.ModuleRecords.{ModuleRecord, module_entry, declarations, declaration_of}
@@ -18,14 +17,12 @@ use Rattle.bc_records.specs.TypeRecords.{table_of}
 use Rattle.bc_records.specs.SymbolRecords.{SymbolsRecorded}
 use Rattle.bc_records.specs.Records.{Recorded}
 use Rattle.bc_records.specs.Ranges.{IsInRange}
-use Rattle.bc_records.specs.RecordKinds.{Known, known_of, code_of, operands_of, is_word, is_function_type, signature_at, has_pointer_to, has_code, has_block, type_entries, type_kinds, constant_kinds, metadata_in, constants_in, module_value_count, is_type_entry, first_of, all_of, function_entries, with_bodies}
-use Rattle.bc_records.specs.RecordFaults.{record_sites, is_complete, body_count, bodies_before}
-use Rattle.bc_records.specs.Read.{text, read_type, read_types, read_constants, read_metas, read_named, read_symbol, read_text, declared, with_names, with_code, read_outline, read_inner, inner_of, read_module}
+use Rattle.bc_records.specs.RecordKinds.{Known, known_of, code_of, operands_of, is_word, signature_at, has_pointer_to, has_code, has_block, type_entries, constant_kinds, module_value_count, first_of, all_of, function_entries, with_bodies}
+use Rattle.bc_records.specs.RecordFaults.{record_sites, body_count, bodies_before}
+use Rattle.bc_records.specs.Read.{text, read_type, read_types, read_constants, read_metas, read_named, read_symbol, read_text, declared, with_code, read_outline, read_inner, inner_of, read_module}
 use Rattle.bc_records.proofs.Agreement.{Agrees}
 use Rattle.bc_records.proofs.FreeModules.{Declared}
 use Rattle.bc_records.proofs.Tests.{Each}
-use Rattle.bc_records.proofs.Tells.{parts_pass, is_at_most, is_below, word_told}
-use Rattle.bc_records.proofs.Told.{Plain}
 use Rattle.bc_records.proofs.ReadTypes.{TypesTold, types_told}
 use Rattle.bc_records.proofs.ReadConstants.{ConstantsTold, constants_told}
 use Rattle.bc_records.proofs.ReadMetadata.{MetadataTold, metadata_told}
@@ -35,6 +32,8 @@ use Rattle.bc_records.proofs.ReadRecords.{FreeModule, module_spelled, one_versio
 use Rattle.bc_records.proofs.HaveTypes.{HasType, have_types, functions_typed, constants_typed}
 use Rattle.bc_records.proofs.ReadBodies.{Around}
 use Rattle.bc_records.proofs.ReadFunctions.{Typed, Bare, bare_declared, bare_names, typed_bare, typed_code, typed_long, names_code, agrees_read, declared_each, declared_code, EachTold, each_recorded, each_sound, each_fits, each_told, functions_fit}
+use Rattle.std.proofs.lemmas.Bool.{and_parts, leb-true, ltb-true}
+use Rattle.bc_records.proofs.Told.{Plain, told_word}
 
 -- counts
 
@@ -42,14 +41,6 @@ only_one : (bs : List Contents) → length bs ≤ 1 → 0 < length bs → (b : C
 only_one [] most least = absurd (omega (arith, least))
 only_one (b ∷ []) most least = (b, refl)
 only_one (b ∷ c ∷ bs) most least = absurd (omega (arith, most))
-
-few_entries : (es : List Entry) → length (type_entries es) ≤ length es
-few_entries [] = omega arith
-few_entries (e ∷ es) = by (is_type_entry e) (few_entries es)
-  where
-    by : (b : Bool) → length (type_entries es) ≤ length es → length (if b then e ∷ type_entries es else type_entries es) ≤ length (e ∷ es)
-    by true few = omega (arith, few)
-    by false few = omega (arith, few)
 
 few_bodies : (known : Known) (at : ℕ) (bs : List Contents) → at ≤ body_count known → EachBodyHeld known at bs → at + length bs ≤ body_count known
 few_bodies known at [] low held = omega (arith, low)
@@ -86,7 +77,7 @@ record Tables (inner : Contents) : Type 0 where
   constants : ConstantsTold (length (read_types inner)) (blocks_in 11 inner) (read_constants inner)
   metadata : MetadataTold (known_of inner) (blocks_in 15 inner) (read_metas inner) (read_named inner)
 
-tables_told : (inner : Contents) → ModuleHeld inner → IsWord (length (first_of (blocks_in 17 inner))) → 0 < length (blocks_in 17 inner) → Tables inner
+tables_told : (inner : Contents) → ModuleHeld inner → IsWord (length (known_of inner).types) → 0 < length (blocks_in 17 inner) → Tables inner
 tables_told inner held few has =
     let known : Known = known_of inner in
     let blocks : Holds known no_more inner = held.blocks in
@@ -96,7 +87,7 @@ tables_told inner held few has =
     let types : TypesTold known b (read_types inner)
     = subst (λ bs. TypesTold known b (table_of [] (map read_type (first_of bs)))) (sym one.1)
     (types_told known b (ap (λ bs. type_entries (first_of bs)) one.1) own.0 own.1) in
-    let few_types : IsWord (length (read_types inner)) = omega (arith, few, few_entries (first_of (blocks_in 17 inner)), types.long) in
+    let few_types : IsWord (length (read_types inner)) = subst IsWord types.long few in
     record {
       type_block = b;
       one_type_table = one.1;
@@ -140,7 +131,7 @@ around_told inner rs spelled t f =
     let typed = subst (λ es. Typed (function_entries es) m.functions) spelled f.typed in
     let numbered : All (λ (f : Function). IsSome (number_of m.types (Pointer f.ty 0))) m.functions
     = declared_each known (λ ty. IsSome (number_of m.types (Pointer ty 0)))
-    (λ ty is. t.types.pointer_types ty (parts_pass (is_some (signature_at known ty)) (has_pointer_to known ty) (parts_pass (is_word ty) (is_some (signature_at known ty) && has_pointer_to known ty) is).1).1)
+    (λ ty is. t.types.pointer_types ty (and_parts (is_some (signature_at known ty)) (has_pointer_to known ty) (and_parts (is_word ty) (is_some (signature_at known ty) && has_pointer_to known ty) is).1).1)
     rs m.functions f.declared_all typed in
     record {
       whole = whole;
@@ -170,7 +161,7 @@ sound_told inner rs spelled t f around each =
       types = t.types.sound;
       globals = All-nil (λ (g : GlobalVar). Names (length m.types) g.ty × IsAlignment g.align);
       functions = declared_each known (λ ty. IsSome (signature m.types ty))
-          (λ ty is. ap is_some (sym (a.signatures ty)) ∙ (parts_pass (is_some (signature_at known ty)) (has_pointer_to known ty) (parts_pass (is_word ty) (is_some (signature_at known ty) && has_pointer_to known ty) is).1).0)
+          (λ ty is. ap is_some (sym (a.signatures ty)) ∙ (and_parts (is_some (signature_at known ty)) (has_pointer_to known ty) (and_parts (is_word ty) (is_some (signature_at known ty) && has_pointer_to known ty) is).1).0)
           rs m.functions f.declared_all typed;
       consts = t.constants.sound;
       typed = have_types m (module_values m) around.values;
@@ -196,7 +187,7 @@ range_told inner rs spelled t f names each =
     let m : Module = read_inner inner in
     let typed = subst (λ es. Typed (function_entries es) m.functions) spelled f.typed in
     let words : All (λ (f : Function). IsWord f.ty) m.functions
-    = declared_each known IsWord (λ ty is. word_told ty (parts_pass (is_word ty) (is_some (signature_at known ty) && has_pointer_to known ty) is).0) rs m.functions f.declared_all typed in
+    = declared_each known IsWord (λ ty is. told_word ty (and_parts (is_word ty) (is_some (signature_at known ty) && has_pointer_to known ty) is).0) rs m.functions f.declared_all typed in
     record {
       triple = read_text_fits 2 (entries_in inner);
       layout = read_text_fits 3 (entries_in inner);
@@ -207,7 +198,7 @@ range_told inner rs spelled t f names each =
       named = t.metadata.named_range;
     }
 
-inner_recorded : (inner : Contents) → ModuleHeld inner → IsWord (length (first_of (blocks_in 17 inner))) → Recorded (a_block 8 inner no_more) (read_inner inner)
+inner_recorded : (inner : Contents) → ModuleHeld inner → IsWord (length (known_of inner).types) → Recorded (a_block 8 inner no_more) (read_inner inner)
 inner_recorded inner held few =
     let known : Known = known_of inner in
     let m : Module = read_inner inner in
@@ -215,16 +206,16 @@ inner_recorded inner held few =
     let es : List Entry = entries_in inner in
     let xs : List (List ℕ) = function_entries es in
     let last : Bool = nat_le (body_count known) (bodies_before inner) in
-    let one = parts_pass (has_code 1 es) (has_code 2 es && (has_code 3 es && (has_block 17 inner && last))) held.complete in
-    let two = parts_pass (has_code 2 es) (has_code 3 es && (has_block 17 inner && last)) one.1 in
-    let three = parts_pass (has_code 3 es) (has_block 17 inner && last) two.1 in
-    let four = parts_pass (has_block 17 inner) last three.1 in
+    let one = and_parts (has_code 1 es) (has_code 2 es && (has_code 3 es && (has_block 17 inner && last))) held.complete in
+    let two = and_parts (has_code 2 es) (has_code 3 es && (has_block 17 inner && last)) one.1 in
+    let three = and_parts (has_code 3 es) (has_block 17 inner && last) two.1 in
+    let four = and_parts (has_block 17 inner) last three.1 in
     let all = module_spelled known es held.records in
     let rs : List ModuleRecord = all.0 in
     let spelled : es ≡ map module_entry rs = all.1 in
     let free : FreeModule known [] (map module_entry rs) = subst (FreeModule known []) spelled held.records in
-    let t : Tables inner = tables_told inner held few (is_below 0 (length (blocks_in 17 inner)) four.0) in
-    let f : Functions inner rs = functions_told inner held rs spelled (is_at_most (body_count known) (bodies_before inner) four.1) in
+    let t : Tables inner = tables_told inner held few (ltb-true 0 (length (blocks_in 17 inner)) four.0) in
+    let f : Functions inner rs = functions_told inner held rs spelled (leb-true (body_count known) (bodies_before inner) four.1) in
     let around : Around known m outline = around_told inner rs spelled t f in
     let each : EachTold m (blocks_in 12 inner) (bodies m.functions) = bodies_told inner rs held f around in
     let same_names : map (λ (f : Function). f.name) m.functions ≡ map (λ (f : Function). f.name) outline.functions = names_code outline xs outline.functions (blocks_in 12 inner) f.bare in
@@ -243,7 +234,7 @@ inner_recorded inner held few =
       globals = refl;
       functions = declared_code known outline rs outline.functions (blocks_in 12 inner) f.declared_all
           (subst (λ xs. Bare (function_entries xs) outline.functions) spelled f.bare) (f.count ∙ ap (λ xs. length (with_bodies (function_entries xs))) spelled)
-      ∙ ap (λ xs. map declaration_of (with_code outline (function_entries xs) outline.functions (blocks_in 12 inner))) (sym spelled);
+          ∙ ap (λ xs. map declaration_of (with_code outline (function_entries xs) outline.functions (blocks_in 12 inner))) (sym spelled);
       type_block = t.type_block;
       one_type_table = t.one_type_table;
       types = t.types.recorded;
@@ -256,9 +247,9 @@ inner_recorded inner held few =
     }
 
 -- A block list without records outside its blocks, in which no place has a kind of fault and whose type table has
--- fewer than 2^32 records, records the module that it says.
-pub free_is_recorded : (c : Contents) → entries_in c ≡ [] → IsWord (length (first_of (blocks_in 17 (inner_of (blocks_in 8 c))))) → All IsFree (record_sites c) → Recorded c (read_module c)
+-- fewer than 2^32 entries, records the module that it says.
+pub free_is_recorded : (c : Contents) → entries_in c ≡ [] → IsWord (length (known_of (inner_of (blocks_in 8 c))).types) → All IsFree (record_sites c) → Recorded c (read_module c)
 free_is_recorded c blocks_alone few free =
     let one : OneBlock c = one_block_held c blocks_alone free in
     subst (λ b. Recorded b (read_module b)) (sym one.is)
-    (inner_recorded one.inner (module_held one.inner one.free) (subst (λ b. IsWord (length (first_of (blocks_in 17 (inner_of (blocks_in 8 b)))))) one.is few))
+    (inner_recorded one.inner (module_held one.inner one.free) (subst (λ b. IsWord (length (known_of (inner_of (blocks_in 8 b))).types)) one.is few))

@@ -1,9 +1,10 @@
 -- What tests of numbers and records tell, and what is told of a block without a fault.
 use mathlib.Core.Logic.{◌⊎◌, inl, inr}
-use Rattle.std.proofs.Common.{◌≡◌, ℕ, ◌<◌, ◌^◌, List, [], ◌∷◌, ◌++◌, map, length, refl, ap, sym, ◌∙◌, subst, arith}
-use Rattle.std.specs.Prelude.{◌≢◌, Bool, true, false, ◌==◌, nat_lt, nat_le, drop, All, flat_map}
+use Rattle.std.proofs.Common.{◌≡◌, ℕ, ◌<◌, ◌≤◌, ◌^◌, List, [], ◌∷◌, ◌++◌, map, length, refl, ap, sym, ◌∙◌, subst, arith}
+use Rattle.std.specs.Prelude.{◌≢◌, Bool, true, false, ◌||◌, ◌==◌, if◌then◌else◌, nat_lt, nat_le, drop, All, flat_map}
 use Rattle.std.specs.List.{list_all}
-use Rattle.std.proofs.lemmas.Bool.{ltb-true, leb-true, eqb-true, and_parts, or_left, or_right}
+use lib.Pointwise.{pointwise}
+use Rattle.std.proofs.lemmas.Bool.{ltb-true, leb-true, eqb-true, true≢false, and_parts, or_left, or_right}
 use Rattle.std.proofs.lemmas.Bool.Decides.{eqb_tells}
 use Rattle.std.proofs.lemmas.List.Elements.{All-nil, All-cons, All-head, All-tail, All-append}
 use Rattle.bc_stream.specs.Blocks.{Contents}
@@ -121,3 +122,39 @@ pub all_in_blocks : {A : Type 0} (P : A → Type 0) (kinds : (before : List Entr
     ((b : Contents) → FreeRecords kinds [] (entries_in b) → All P (said b)) → (bs : List Contents) → Each (Plain kinds) bs → All P (flat_map said bs)
 all_in_blocks P kinds said each [] plain = All-nil P
 all_in_blocks P kinds said each (b ∷ bs) plain = All-append P (said b) (flat_map said bs) (each b plain.0.1) (all_in_blocks P kinds said each bs plain.1)
+
+-- the kinds of one case or of the other
+pub chosen : {P : Type 0} (b : Bool) (xs ys : List ℕ) → if◌then◌else◌ {A = List ℕ} b xs ys ≡ [] → (b ≡ true → xs ≡ [] → P) → (b ≡ false → ys ≡ [] → P) → P
+chosen true xs ys none p q = p refl none
+chosen false xs ys none p q = q refl none
+
+pub either_passes : {P : Type 0} (a b : Bool) → (a || b) ≡ true → (a ≡ true → P) → (b ≡ true → P) → P
+either_passes true b h p q = p refl
+either_passes false b h p q = q h
+
+-- operands that are equal
+pub is_same : (xs ys : List ℕ) → pointwise (λ x y. x == y) xs ys ≡ true → xs ≡ ys
+is_same [] [] h = refl
+is_same [] (y ∷ ys) h = absurd (true≢false (sym h))
+is_same (x ∷ xs) [] h = absurd (true≢false (sym h))
+is_same (x ∷ xs) (y ∷ ys) h =
+    let apart = and_parts (x == y) (pointwise (λ a b. a == b) xs ys) h in
+    ap (λ z. z ∷ xs) (eqb-true x y apart.0) ∙ ap (λ zs. y ∷ zs) (is_same xs ys apart.1)
+
+-- each record is spelled by one of a table, where that holds of each that has no kind
+pub spelled_by : {R : Type 0} (spell : R → Entry) (kinds : (before : List Entry) → Entry → (after : List Entry) → List ℕ) →
+    ((before : List Entry) (e : Entry) (after : List Entry) → kinds before e after ≡ [] → (r : R) × (e ≡ spell r)) →
+    (before es : List Entry) → FreeRecords kinds before es → (rs : List R) × (es ≡ map spell rs)
+spelled_by spell kinds one before [] free = ([], refl)
+spelled_by spell kinds one before (e ∷ es) free =
+    let own = one before e es free.0 in
+    let rest = spelled_by spell kinds one (before ++ e ∷ []) es free.1 in
+    (own.0 ∷ rest.0, ap (λ x. x ∷ es) own.1 ∙ ap (λ xs. spell own.0 ∷ xs) rest.1)
+
+-- at least four
+pub four_operands : (xs : List ℕ) → 4 ≤ length xs → xs ≡ operand xs 0 ∷ operand xs 1 ∷ operand xs 2 ∷ operand xs 3 ∷ drop 4 xs
+four_operands [] h = absurd (omega (arith, h))
+four_operands (a ∷ []) h = absurd (omega (arith, h))
+four_operands (a ∷ b ∷ []) h = absurd (omega (arith, h))
+four_operands (a ∷ b ∷ c ∷ []) h = absurd (omega (arith, h))
+four_operands (a ∷ b ∷ c ∷ d ∷ others) h = refl

@@ -144,7 +144,7 @@ declared_here : (n k : ℕ) (before : List Entry) (rs : List BodyRecord) → Dec
 declared_here n k before rs (inl h) = absurd (omega (arith, ap length h))
 declared_here n k before rs (inr h) = let same = parts_same k n (declared_blocks rs) [] h.1 in (same.0, h.0, same.1)
 
-pub fill_more : (inst : Inst) (blocks : List (List Inst)) → (0 < length (before_first inst blocks)) × (length blocks ≤ length (before_first inst blocks))
+fill_more : (inst : Inst) (blocks : List (List Inst)) → (0 < length (before_first inst blocks)) × (length blocks ≤ length (before_first inst blocks))
 fill_more inst [] = (omega arith, omega arith)
 fill_more inst (b ∷ bs) = (omega arith, omega arith)
 

@@ -50,7 +50,7 @@ params_long known m a f operands head =
     by None = refl
     by (Some s) = refl
 
-pub declared_first : (rs : List BodyRecord) (n : ℕ) → declared_blocks rs ≡ n ∷ [] → first_operand 1 (map body_entry rs) ≡ Some n
+declared_first : (rs : List BodyRecord) (n : ℕ) → declared_blocks rs ≡ n ∷ [] → first_operand 1 (map body_entry rs) ≡ Some n
 declared_first [] n said = absurd (omega (arith, ap length said))
 declared_first (declare_blocks k ∷ rs) n said = ap Some (parts_same k n (declared_blocks rs) [] said).0
 declared_first (return_record ∷ rs) n said = declared_first rs n said

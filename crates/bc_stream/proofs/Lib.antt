@@ -1,5 +1,7 @@
 pub mod BitLemmas
 pub mod BlockLemmas
+pub mod ChunkLemmas
+pub mod ReaderLemmas
 pub mod SpellingLaw
 pub mod StepLemmas
 pub mod WriterLemmas

@@ -124,13 +124,13 @@ pub no_chunk : (unit : ℕ) (from : Place) → NoNumber (Fixed (unit + 1)) from 
 no_chunk unit from none number to p = let o = opens unit number from to p in none o.chunk o.behind o.reads
 
 -- a number whose first chunk says that it is the only one
-pub only_chunk : (bytes : List ℕ) (unit at chunk to : ℕ) → FixedAt bytes (unit + 1) at chunk → chunk < 2 ^ unit → to ≡ at + (unit + 1) →
+pub only_chunk : (bytes : List ℕ) (unit at chunk to : ℕ) → FixedAt bytes (unit + 1) at chunk → chunk < 2 ^ unit → chunk < 2 ^ 64 → to ≡ at + (unit + 1) →
     NumberAt bytes unit at (record { value = Some chunk; to = to })
-only_chunk bytes unit at chunk to p below is = record {
+only_chunk bytes unit at chunk to p below fits is = record {
   number = chunk;
   reads = subst (λ n. Chunked unit chunk (place_in bytes at) (place_in bytes n)) (sym is)
       (last_of unit chunk (place_in bytes at) (place_in bytes (at + (unit + 1))) p.reads below);
-  holds = refl;
+  holds = (refl, fits);
   forward = omega arith;
   within = omega (arith, p.within);
 }
@@ -210,7 +210,7 @@ no_chunk_more bytes unit from at sum shift s none number to p =
 -- the number that a sum up to 2^64 stands for
 holds_sum : (value : Option ℕ) (sum number : ℕ) → MatchOption value (2 ^ 64 ≤ sum) (λ v. (v ≡ sum) × (v < 2 ^ 64)) → sum ≡ min number (2 ^ 64) → Holds value number
 holds_sum None sum number h is = omega arith
-holds_sum (Some v) sum number h is = omega arith
+holds_sum (Some v) sum number h is = (omega arith, omega arith)
 
 pub chunks_end : (bytes : List ℕ) (unit from at sum shift chunk to new : ℕ) (value : Option ℕ) → ChunksAt bytes unit from at sum shift → FixedAt bytes (unit + 1) at chunk → chunk < 2 ^ unit →
     to ≡ at + (unit + 1) → new ≡ min (sum + chunk % 2 ^ unit * 2 ^ shift) (2 ^ 64) → MatchOption value (2 ^ 64 ≤ new) (λ v. (v ≡ new) × (v < 2 ^ 64)) →

@@ -2,6 +2,7 @@ pub mod BitLemmas
 pub mod BlockLemmas
 pub mod ChunkLemmas
 pub mod ReaderLemmas
+pub mod RecordLemmas
 pub mod SpellingLaw
 pub mod StepLemmas
 pub mod WriterLemmas

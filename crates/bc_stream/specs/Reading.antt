@@ -34,7 +34,7 @@ pub record FixedAt (bytes : List ℕ) (width : ℕ) (at : ℕ) (number : ℕ) : 
 -- a number, or none where it is above 64 bits
 abbrev pub Holds : Option ℕ → ℕ → Type 0
 Holds None number = 2 ^ 64 ≤ number
-Holds (Some value) number = value ≡ number
+Holds (Some value) number = (value ≡ number) × (number < 2 ^ 64)
 
 -- A number in chunks.
 pub record NumberAt (bytes : List ℕ) (unit : ℕ) (at : ℕ) (found : Number) : Type 0 where

@@ -1,5 +1,8 @@
 //! Records, read whatever their numbers are.
 
+ghost use Rattle.std.specs.Prelude.{◌≡◌, ◌+◌, ◌*◌, ◌-◌, ◌/◌, ◌^◌, ◌<◌, ◌≤◌, length, IfOk, MatchOption};
+ghost use Rattle.bc_stream.specs.Reading.{CountWithin, NoRecord, NoValues, RecordAt, SkippedAt, ValuesAt};
+
 use crate::block::Values;
 use crate::reader::{bits_left, read_number};
 use base_core::{NoMemory, Sequence};
@@ -32,16 +35,38 @@ pub(crate) struct RecordRead {
 }
 
 /// Passes so many values. None where the bytes end before the last of them.
-fn skip_values(bytes: &[u8], count: usize, at: usize) -> Option<usize> {
-    let mut at = at;
-    for _ in 0..count {
-        at = read_number(bytes, RECORD_UNIT, at)?.to;
+fn skip_values(bytes: &[u8], count: usize, at: usize) -> Option<usize>
+    requires short { length bytes.now < 2 ^ 32 }
+    requires within { at ≤ 8 * length bytes.now }
+    ensures { MatchOption result (NoValues bytes.now count at) (SkippedAt bytes.now count at) }
+{
+    let mut to = at;
+    for index in 0..count {
+        let Some(number) = read_number(bytes, RECORD_UNIT, to) else {
+            return None;
+        };
+        to = number.to;
     }
-    Some(at)
+    Some(to)
+}
+
+/// Passes the values behind one that is above 64 bits. None where the bytes end before the last of them.
+fn skip_rest(bytes: &[u8], count: usize, at: usize) -> Option<ValuesRead>
+    requires short { length bytes.now < 2 ^ 32 }
+    requires within { at ≤ 8 * length bytes.now }
+    ensures { MatchOption result (NoValues bytes.now count at) (λ found. SkippedAt bytes.now count at found.to × (found.list ≡ None)) }
+{
+    match skip_values(bytes, count, at) {
+        Some(to) => Some(ValuesRead { list: None, to }),
+        None => None,
+    }
 }
 
 /// A number of values that may be in so many bits.
-fn count_within(count: Option<u64>, bits: usize) -> Option<usize> {
+fn count_within(count: Option<u64>, bits: usize) -> Option<usize>
+    requires { bits < 2 ^ 36 }
+    ensures { CountWithin count bits result }
+{
     match count {
         Some(count) if count <= (bits / LEAST_VALUE_BITS) as u64 => Some(count as usize),
         _ => None,
@@ -54,26 +79,27 @@ fn read_values(
     bytes: &[u8],
     count: usize,
     at: usize,
-) -> Result<Option<ValuesRead>, NoMemory> {
-    let mut at = at;
+) -> Result<Option<ValuesRead>, NoMemory>
+    requires short { length bytes.now < 2 ^ 32 }
+    requires within { at ≤ 8 * length bytes.now }
+    ensures { IfOk result (λ found. MatchOption found (NoValues bytes.now count at) (ValuesAt bytes.now count at)) }
+{
+    let mut to = at;
     let mut list = Vec::with_capacity(alloc, count)?;
     for index in 0..count {
-        let Some(number) = read_number(bytes, RECORD_UNIT, at) else {
+        let Some(number) = read_number(bytes, RECORD_UNIT, to) else {
             return Ok(None);
         };
-        at = number.to;
         let Some(value) = number.value else {
-            return Ok(match skip_values(bytes, count - index - 1, at) {
-                Some(to) => Some(ValuesRead { list: None, to }),
-                None => None,
-            });
+            return Ok(skip_rest(bytes, count - index - 1, number.to));
         };
         list.push(value)?;
+        to = number.to;
     }
     let list = Sequence::from_vec(list)?;
     Ok(Some(ValuesRead {
         list: Some(list),
-        to: at,
+        to,
     }))
 }
 
@@ -85,7 +111,11 @@ pub(crate) fn read_record(
     alloc: Global,
     bytes: &[u8],
     at: usize,
-) -> Result<Option<RecordRead>, NoMemory> {
+) -> Result<Option<RecordRead>, NoMemory>
+    requires short { length bytes.now < 2 ^ 32 }
+    requires within { at ≤ 8 * length bytes.now }
+    ensures { IfOk result (λ found. MatchOption found (NoRecord bytes.now at) (RecordAt bytes.now at)) }
+{
     let Some(code) = read_number(bytes, RECORD_UNIT, at) else {
         return Ok(None);
     };

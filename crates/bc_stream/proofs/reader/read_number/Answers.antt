@@ -11,4 +11,4 @@ pub returns-then-chunk-unit : goal.returns-then-chunk-unit
 returns-then-chunk-unit c =
     let small : c.args.unit < 64 = omega arith in
     only_chunk c.args.bytes.now c.args.unit c.args.at c.in-Some.chunk (c.args.at + (c.args.unit + 1)) c.in-Some.ensures
-    (omega (arith, one_shl c.args.unit 64 small)) refl
+    (omega (arith, one_shl c.args.unit 64 small)) (omega arith) refl

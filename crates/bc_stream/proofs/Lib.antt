@@ -1,6 +1,7 @@
 pub mod BitLemmas
 pub mod BlockLemmas
 pub mod ChunkLemmas
+pub mod PieceLemmas
 pub mod ReaderLemmas
 pub mod RecordLemmas
 pub mod SpellingLaw

@@ -1,6 +1,7 @@
 pub mod Bits
 pub mod Blocks
 pub mod Faults
+pub mod Pieces
 pub mod Reading
 pub mod Spelling
 pub mod Writing

@@ -1,9 +1,15 @@
 //! The pieces of a stream, each read whole and then judged.
 
+ghost use Rattle.std.specs.Prelude.{◌≡◌, ◌+◌, ◌*◌, ◌^◌, ◌<◌, ◌≤◌, length, MatchOption, MatchResult};
+ghost use Rattle.bc_stream.specs.declared.fault.StreamFault.TheVariants.{Bad};
+ghost use Rattle.bc_stream.specs.Spelling.{most_levels};
+ghost use Rattle.bc_stream.specs.Reading.{FixedAt};
+ghost use Rattle.bc_stream.specs.Pieces.{FaultAt, HasFault, HeadAt, IsBelow, NoHead, PieceAt};
+
 use crate::block::Values;
 use crate::fault::StreamFault;
 use crate::reader::{align, read_fixed, read_number};
-use crate::record::read_record;
+use crate::record::{RecordRead, read_record};
 use std::alloc::Global;
 
 /// The abbreviation id of the end of a block.
@@ -94,7 +100,9 @@ struct HeadRead {
 }
 
 /// A fault of the piece at a place.
-fn fault(kind: u8, at: usize) -> StreamFault {
+fn fault(kind: u8, at: usize) -> StreamFault
+    ensures { result ≡ Bad kind at }
+{
     StreamFault::Bad {
         kind,
         bit: at as u64,
@@ -102,15 +110,19 @@ fn fault(kind: u8, at: usize) -> StreamFault {
 }
 
 /// A number, if it fits 32 bits.
-fn in_word(value: Option<u64>) -> Option<u32> {
+fn in_word(value: Option<u64>) -> Option<u32>
+    ensures { IsBelow (2 ^ 32) value result }
+{
     match value {
-        Some(value) => u32::try_from(value).ok(),
-        None => None,
+        Some(value) if value <= u32::MAX as u64 => Some(value as u32),
+        _ => None,
     }
 }
 
 /// A width of abbreviation ids, if it isn't above 64.
-fn in_limit(width: Option<u64>) -> Option<u32> {
+fn in_limit(width: Option<u64>) -> Option<u32>
+    ensures { IsBelow 65 width result }
+{
     match width {
         Some(width) if width <= MOST_WIDTH => Some(width as u32),
         _ => None,
@@ -118,11 +130,23 @@ fn in_limit(width: Option<u64>) -> Option<u32> {
 }
 
 /// Reads the head of a block behind its abbreviation id, or none where the bytes end before its end.
-fn read_head(bytes: &[u8], at: usize) -> Option<HeadRead> {
-    let id = read_number(bytes, ID_UNIT, at)?;
-    let width = read_number(bytes, WIDTH_UNIT, id.to)?;
-    let start = align(bytes, width.to)?;
-    let words = read_fixed(bytes, u32::BITS, start)?;
+fn read_head(bytes: &[u8], at: usize) -> Option<HeadRead>
+    requires short { length bytes.now < 2 ^ 32 }
+    requires within { at ≤ 8 * length bytes.now }
+    ensures { MatchOption result (NoHead bytes.now at) (HeadAt bytes.now at) }
+{
+    let Some(id) = read_number(bytes, ID_UNIT, at) else {
+        return None;
+    };
+    let Some(width) = read_number(bytes, WIDTH_UNIT, id.to) else {
+        return None;
+    };
+    let Some(start) = align(bytes, width.to) else {
+        return None;
+    };
+    let Some(words) = read_fixed(bytes, u32::BITS, start) else {
+        return None;
+    };
     Some(HeadRead {
         id: id.value,
         width: width.value,
@@ -132,7 +156,13 @@ fn read_head(bytes: &[u8], at: usize) -> Option<HeadRead> {
 }
 
 /// The end of a block that begins at `at`, and is read from `behind` on.
-fn leave(bytes: &[u8], scope: Scope, at: usize, behind: usize) -> Result<Piece, StreamFault> {
+fn leave(bytes: &[u8], scope: Scope, at: usize, behind: usize) -> Result<Piece, StreamFault>
+    requires short { length bytes.now < 2 ^ 32 }
+    requires levels { scope.levels ≤ most_levels }
+    requires behind { behind ≡ at + scope.width }
+    requires id { FixedAt bytes.now scope.width at 0 }
+    ensures { MatchResult result (PieceAt bytes.now scope at) (FaultAt bytes.now scope at) }
+{
     let Some(to) = align(bytes, behind) else {
         return Err(fault(END_OF_BYTES, at));
     };
@@ -146,7 +176,13 @@ fn leave(bytes: &[u8], scope: Scope, at: usize, behind: usize) -> Result<Piece, 
 }
 
 /// The head of a block that begins at `at`, and is read from `behind` on.
-fn enter(bytes: &[u8], scope: Scope, at: usize, behind: usize) -> Result<Piece, StreamFault> {
+fn enter(bytes: &[u8], scope: Scope, at: usize, behind: usize) -> Result<Piece, StreamFault>
+    requires short { length bytes.now < 2 ^ 32 }
+    requires levels { scope.levels ≤ most_levels }
+    requires behind { behind ≡ at + scope.width }
+    requires id { FixedAt bytes.now scope.width at 1 }
+    ensures { MatchResult result (PieceAt bytes.now scope at) (FaultAt bytes.now scope at) }
+{
     let Some(head) = read_head(bytes, behind) else {
         return Err(fault(END_OF_BYTES, at));
     };
@@ -181,28 +217,34 @@ fn record(
     scope: Scope,
     at: usize,
     behind: usize,
-) -> Result<Piece, StreamFault> {
+) -> Result<Piece, StreamFault>
+    requires short { length bytes.now < 2 ^ 32 }
+    requires levels { scope.levels ≤ most_levels }
+    requires behind { behind ≡ at + scope.width }
+    requires id { FixedAt bytes.now scope.width at 3 }
+    ensures { MatchResult result (PieceAt bytes.now scope at) (FaultAt bytes.now scope at) }
+{
     let Some(found) = read_record(alloc, bytes, behind)? else {
         return Err(fault(END_OF_BYTES, at));
     };
-    let Some(code) = in_word(found.code) else {
+    let RecordRead { code, values, to } = found;
+    let Some(code) = in_word(code) else {
         return Err(fault(TOO_LARGE, at));
     };
-    let Some(values) = found.values else {
+    let Some(values) = values else {
         return Err(fault(TOO_LARGE, at));
     };
     if scope.levels == 0 {
         return Err(fault(OUTSIDE_BLOCKS, at));
     }
-    Ok(Piece::Record {
-        code,
-        values,
-        to: found.to,
-    })
+    Ok(Piece::Record { code, values, to })
 }
 
 /// The fault of a definition of an abbreviation.
-fn define(scope: Scope, at: usize) -> StreamFault {
+fn define(bytes: &[u8], scope: Scope, at: usize) -> StreamFault
+    requires id { FixedAt bytes.now scope.width at 2 }
+    ensures { FaultAt bytes.now scope at result }
+{
     if scope.levels == 0 {
         fault(OUTSIDE_BLOCKS, at)
     } else {
@@ -219,7 +261,13 @@ pub(crate) fn next_piece(
     bytes: &[u8],
     scope: Scope,
     at: usize,
-) -> Result<Piece, StreamFault> {
+) -> Result<Piece, StreamFault>
+    requires short { length bytes.now < 2 ^ 32 }
+    requires levels { scope.levels ≤ most_levels }
+    requires limit { scope.width ≤ 64 }
+    requires within { at ≤ 8 * length bytes.now }
+    ensures { MatchResult result (PieceAt bytes.now scope at) (FaultAt bytes.now scope at) }
+{
     let Some(id) = read_fixed(bytes, scope.width, at) else {
         return Err(fault(END_OF_BYTES, at));
     };
@@ -227,7 +275,7 @@ pub(crate) fn next_piece(
     match id {
         END_BLOCK => leave(bytes, scope, at, behind),
         ENTER_SUBBLOCK => enter(bytes, scope, at, behind),
-        DEFINE_ABBREV => Err(define(scope, at)),
+        DEFINE_ABBREV => Err(define(bytes, scope, at)),
         UNABBREV_RECORD => record(alloc, bytes, scope, at, behind),
         _ => Err(fault(UNDEFINED_ID, at)),
     }

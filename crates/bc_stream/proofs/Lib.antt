@@ -1,5 +1,6 @@
 pub mod BitLemmas
 pub mod BlockLemmas
+pub mod BodyLemmas
 pub mod ChunkLemmas
 pub mod PieceLemmas
 pub mod ReaderLemmas

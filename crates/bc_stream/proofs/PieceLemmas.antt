@@ -154,6 +154,7 @@ good_leave bytes scope at behind to is read p some here = record {
   good = good_at bytes scope at behind to raw_leave is read p.reads
       (λ frames knows kind h. leave_good frames (place_in bytes to) scope.ends kind (some_frames scope frames knows some) knows.ends-is here h);
   on_word = p.on_word;
+  forward = omega (arith, p.forward);
   within = p.within;
 }
 

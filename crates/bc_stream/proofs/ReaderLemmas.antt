@@ -60,6 +60,10 @@ front_of_eight bytes word long fits is count few within =
     ∙ (ap (take count) (sym (number_bits 8 bytes long fits))
     ∙ (take-low_bits 64 count (little_number 8 bytes) few ∙ ap (low_bits count) (sym is)))
 
+-- bytes that are left are bytes
+pub rest_bytes : (bytes : List ℕ) (start : ℕ) → ((i : ℕ) → get_or bytes i 0 < 256) → (i : ℕ) → get_or (drop start bytes) i 0 < 256
+rest_bytes bytes start fits i = subst (λ b. b < 256) (sym (get_or-drop start bytes i 0)) (fits (start + i))
+
 -- fewer bytes, filled up with zeros
 zero_bytes : (n i : ℕ) → get_or (replicate n 0) i 0 < 256
 zero_bytes zero i = omega arith

@@ -1,5 +1,6 @@
 pub mod Bits
 pub mod Blocks
+pub mod Bodies
 pub mod Faults
 pub mod Pieces
 pub mod Reading

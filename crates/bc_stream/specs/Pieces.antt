@@ -62,6 +62,7 @@ FaultAt bytes scope at Memory = Unit {0}
 pub record LeaveAt (bytes : List ℕ) (scope : Scope) (at : ℕ) (to : ℕ) : Type 0 where
   pub good : GoodAt bytes scope at raw_leave to
   pub on_word : to % 32 ≡ 0
+  pub forward : at ≤ to
   pub within : to ≤ 8 * length bytes
 
 -- The head of a block, with what is known inside it.

@@ -1,10 +1,10 @@
 -- Blocks, read piece by piece.
-use Rattle.std.proofs.Common.{◌≡◌, ℕ, zero, suc, ◌+◌, ◌*◌, ◌/◌, ◌%◌, ◌^◌, ◌<◌, ◌≤◌, ◌≢◌, ◌↔◌, ◌⊎◌, List, [], ◌∷◌, ◌++◌, length, drop, get_or, IsTrue, Result, Ok, Err, MatchResult, refl, sym, ap, ◌∙◌, subst, inl, inr, arith}
+use Rattle.std.proofs.Common.{◌≡◌, ℕ, zero, suc, ◌*◌, ◌/◌, ◌%◌, ◌^◌, ◌<◌, ◌≤◌, ◌↔◌, ◌⊎◌, List, [], ◌∷◌, ◌++◌, length, drop, get_or, Result, Ok, Err, MatchResult, refl, sym, ap, ◌∙◌, subst, inl, inr, arith}
 use Rattle.std.specs.List.{All, flat_map}
 use Rattle.std.proofs.Math.Nat.{pow-suc}
 use Rattle.std.proofs.lemmas.Grind.{flat_map-append}
-use Rattle.std.proofs.lemmas.List.{append_assoc, append-nil, length-append, length-drop}
-use Rattle.std.proofs.lemmas.List.Elements.{All-nil, All-cons, All-head, All-tail, All-append, All-drop}
+use Rattle.std.proofs.lemmas.List.{append-nil}
+use Rattle.std.proofs.lemmas.List.Elements.{All-nil, All-cons, All-head, All-tail, All-append}
 use Rattle.bc_stream.specs.declared.block.BlockTree.{BlockTree}
 use Rattle.bc_stream.specs.declared.fault.StreamFault.{StreamFault}
 use Rattle.bc_stream.specs.declared.fault.StreamFault.TheVariants.{Bad, Memory}
@@ -14,12 +14,12 @@ use Rattle.bc_stream.specs.declared.piece.Scope.{Scope}
 use Rattle.bc_stream.specs.declared.read.Body.{Body}
 use Rattle.bc_stream.specs.Bits.{low_bits, bits_of, Place}
 use Rattle.bc_stream.specs.Blocks.{Contents, no_more, a_record, a_block, append, parts_contents, contents_of}
-use Rattle.bc_stream.specs.Spelling.{Raw, raw_leave, raw_enter, raw_record, Frame, State, frames_after, outer, Good, Leads, Shown, shown_leave, shown_enter, shown_record, shown, shown_of, start, IsEnd, Spelled, Faulty, FaultBehind, FaultHere}
+use Rattle.bc_stream.specs.Spelling.{Raw, raw_leave, raw_enter, raw_record, Frame, State, frames_after, outer, Good, Leads, Shown, shown_leave, shown_enter, shown_record, shown, shown_of, start, IsEnd, Spelled, Faulty, FaultHere}
 use Rattle.bc_stream.specs.Faults.{IsBad}
 use Rattle.bc_stream.specs.Reading.{place_in}
 use Rattle.bc_stream.specs.Pieces.{state_in, Knows, FaultAt, LeaveAt, EnterAt, EntryAt, PieceAt}
 use Rattle.bc_stream.specs.Bodies.{Shows, FaultBeyond, FaultFrom, PartsAt, BodyAt, BlockAt, BlocksAt}
-use Rattle.bc_stream.proofs.BitLemmas.{low_bits-none, low_bits-more, bits_of-none, bits_of-more, length-low_bits}
+use Rattle.bc_stream.proofs.BitLemmas.{low_bits-none, low_bits-more, bits_of-none, bits_of-more}
 use Rattle.bc_stream.proofs.ReaderLemmas.{drop_bytes}
 use Rattle.bc_stream.proofs.SpellingLaw.{one_list, one_fault, no_fault}
 use Rattle.bc_stream.proofs.WroteAllLemmas.{leads_append, shown_of-append}
@@ -292,9 +292,10 @@ pub zeros_from : (bytes rest : List ℕ) (at : ℕ) → at % 8 ≡ 0 → rest �
     All (λ byte. byte ≡ 0) rest ↔ All (λ bit. bit ≡ 0) (drop at (bits_of bytes))
 zeros_from bytes rest at on is fits =
     let place : 8 * (at / 8) ≡ at = omega arith in
-    let bits : drop at (bits_of bytes) ≡ bits_of rest = ap (λ n. drop n (bits_of bytes)) (sym place) ∙ (drop_bytes (at / 8) bytes ∙ ap bits_of (sym is)) in
-    (λ zeros. subst (All (λ bit. bit ≡ 0)) (sym bits) (zero_bits rest zeros),
-    λ zeros. zero_bytes rest fits (subst (All (λ bit. bit ≡ 0)) bits zeros))
+    let bits : drop at (bits_of bytes) ≡ bits_of rest = ap (λ n. drop n (bits_of bytes)) (sym place) ∙ (drop_bytes (at / 8) bytes ∙ ap bits_of (sym is)) in (
+      λ zeros. subst (All (λ bit. bit ≡ 0)) (sym bits) (zero_bits rest zeros),
+      λ zeros. zero_bytes rest fits (subst (All (λ bit. bit ≡ 0)) bits zeros),
+    )
 
 -- ---- answers
 

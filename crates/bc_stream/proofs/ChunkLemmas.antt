@@ -6,7 +6,6 @@ use Rattle.std.proofs.lemmas.Bool.{cases_lt}
 use Rattle.std.proofs.lemmas.List.{append_assoc, length-append}
 use Rattle.std.proofs.lemmas.List.Elements.{All-head, All-tail}
 use Rattle.std.proofs.lemmas.Nat.{mod_below, pow_pos, pow-add, shr_high, mod_low, mod-mul-add, pow_below}
-use Rattle.bc_stream.specs.declared.reader.Number.{Number}
 use Rattle.bc_stream.specs.Bits.{low_bits, Place, Takes, Fixed, chunks_number, chunks_bits, Chunked}
 use Rattle.bc_stream.specs.Writing.{place}
 use Rattle.bc_stream.specs.Reading.{place_in, NoNumber, FixedAt, Holds, NumberAt, ChunksAt}
@@ -64,16 +63,19 @@ opens_with unit number first (next ∷ more) f t fit takes =
           at = omega (arith, length-low_bits (unit + 1) chunk);
         };
       };
-      goes_on = inr (chunks_number unit (next ∷ more), record {
-        first = next;
-        more = more;
-        fit = All-tail (λ c. c < 2 ^ unit) first (next ∷ more) fit;
-        makes = refl;
-        takes = record {
-          left = refl;
-          at = omega (arith, takes.at, ap length whole, length-append (low_bits (unit + 1) chunk) rest, length-low_bits (unit + 1) chunk);
-        };
-      });
+      goes_on = inr (
+        chunks_number unit (next ∷ more),
+        record {
+          first = next;
+          more = more;
+          fit = All-tail (λ c. c < 2 ^ unit) first (next ∷ more) fit;
+          makes = refl;
+          takes = record {
+            left = refl;
+            at = omega (arith, takes.at, ap length whole, length-append (low_bits (unit + 1) chunk) rest, length-low_bits (unit + 1) chunk);
+          };
+        },
+      );
     }
 
 pub opens : (unit number : ℕ) (f t : Place) → Chunked unit number f t → Opens unit number f t

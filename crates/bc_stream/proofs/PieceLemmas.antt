@@ -1,5 +1,5 @@
 -- Pieces, read whole and then judged.
-use Rattle.std.proofs.Common.{◌≡◌, ℕ, zero, suc, ◌+◌, ◌*◌, ◌^◌, ◌<◌, ◌≤◌, ◌≢◌, List, [], ◌∷◌, length, Option, Some, None, refl, sym, ap, ◌∙◌, subst, inl, inr, arith}
+use Rattle.std.proofs.Common.{◌≡◌, ℕ, ◌+◌, ◌*◌, ◌^◌, ◌<◌, ◌≤◌, ◌≢◌, List, [], ◌∷◌, length, Some, None, refl, sym, ap, ◌∙◌, subst, inl, inr, arith}
 use Rattle.std.specs.List.{All}
 use Rattle.std.proofs.lemmas.List.{nil_from_length}
 use Rattle.bc_stream.specs.declared.fault.StreamFault.{StreamFault}
@@ -8,10 +8,10 @@ use Rattle.bc_stream.specs.declared.piece.HeadRead.{HeadRead}
 use Rattle.bc_stream.specs.declared.piece.Scope.{Scope}
 use Rattle.bc_stream.specs.declared.reader.Number.{Number}
 use Rattle.bc_stream.specs.declared.record.RecordRead.{RecordRead}
-use Rattle.bc_stream.specs.Bits.{Place, Step, ◌then◌, Fixed, Aligned, Chunked, Vbr}
-use Rattle.bc_stream.specs.Spelling.{Raw, raw_leave, raw_enter, raw_define, raw_record, raw_undefined, id_of, layout, reads, Frame, State, width_in, Has, Good, FaultHere, EndsElsewhere}
-use Rattle.bc_stream.specs.Reading.{place_in, NoNumber, FixedAt, AlignedAt, Holds, HoldAll, NumberAt, RecordAt, NoRecord}
-use Rattle.bc_stream.specs.Pieces.{IsBelow, HeadAt, NoHead, state_in, Knows, GoodAt, HasFault, FaultAt, LeaveAt, EnterAt, EntryAt, ends_in}
+use Rattle.bc_stream.specs.Bits.{Place, ◌then◌, Fixed, Aligned, Chunked, Vbr}
+use Rattle.bc_stream.specs.Spelling.{Raw, raw_leave, raw_enter, raw_define, raw_record, raw_undefined, id_of, layout, reads, Frame, width_in, Has, EndsElsewhere}
+use Rattle.bc_stream.specs.Reading.{place_in, NoNumber, FixedAt, AlignedAt, HoldAll, NumberAt, RecordAt, NoRecord}
+use Rattle.bc_stream.specs.Pieces.{IsBelow, HeadAt, NoHead, Knows, GoodAt, HasFault, FaultAt, LeaveAt, EnterAt, EntryAt, ends_in}
 use Rattle.bc_stream.proofs.StepLemmas.{fixed_once, aligned_once, vbr_once}
 
 pub fault_at : (bytes : List ℕ) (scope : Scope) (at kind : ℕ) (fault : StreamFault) → fault ≡ Bad kind at → HasFault bytes scope at kind → FaultAt bytes scope at fault

@@ -1,10 +1,9 @@
 -- Bits at places of bytes, taken from words of 64 bits.
 use Rattle.std.proofs.Common.{◌≡◌, ℕ, zero, suc, ◌+◌, ◌-◌, ◌*◌, ◌/◌, ◌%◌, ◌^◌, ◌<◌, ◌≤◌, List, [], ◌∷◌, ◌++◌, length, take, drop, get_or, refl, sym, ap, ◌∙◌, subst, arith}
 use Rattle.std.specs.Prelude.{replicate}
-use Rattle.std.specs.List.{All}
-use Rattle.std.proofs.lemmas.List.{append_assoc, append-nil, length-append, length-take, length-drop, length-take-le, take-append-drop, take-append-le, drop-append-le, take_at, drop_at, drop-drop, drop-take, get_or-drop}
-use Rattle.std.proofs.lemmas.Nat.{mod_below, pow_pos, shl_whole}
-use Rattle.byteorder.specs.Endian.{little_from, little_number}
+use Rattle.std.proofs.lemmas.List.{append_assoc, length-append, length-drop, length-take-le, take-append-drop, take-append-le, take_at, drop_at, drop-drop, drop-take, get_or-drop}
+use Rattle.std.proofs.lemmas.Nat.{mod_below, pow_pos}
+use Rattle.byteorder.specs.Endian.{little_number}
 use Rattle.byteorder.specs.Numbers.{little_from-cons}
 use Rattle.bc_stream.specs.Bits.{low_bits, bits_of, Place, Takes, Fixed, Aligned}
 use Rattle.bc_stream.specs.Reading.{place_in, NoNumber, IsFront, IsWindow, FixedAt, AlignedAt}

@@ -1,11 +1,11 @@
 -- Records, read number by number.
-use Rattle.std.proofs.Common.{◌≡◌, ℕ, zero, suc, ◌+◌, ◌-◌, ◌*◌, ◌^◌, ◌<◌, ◌≤◌, List, [], ◌∷◌, ◌++◌, length, drop, Option, Some, None, MatchOption, refl, sym, ap, ◌∙◌, subst, arith}
+use Rattle.std.proofs.Common.{◌≡◌, ℕ, suc, ◌+◌, ◌-◌, ◌*◌, ◌^◌, ◌<◌, ◌≤◌, List, [], ◌∷◌, ◌++◌, length, Option, Some, None, MatchOption, refl, sym, ap, ◌∙◌, subst, arith}
 use Rattle.std.specs.List.{All}
-use Rattle.std.proofs.lemmas.List.{append_assoc, length-append, drop_at}
-use Rattle.std.proofs.lemmas.List.Elements.{All-nil, All-push, All-head, All-drop}
+use Rattle.std.proofs.lemmas.List.{length-append, drop_at}
+use Rattle.std.proofs.lemmas.List.Elements.{All-push, All-head, All-drop}
 use Rattle.bc_stream.specs.declared.reader.Number.{Number}
 use Rattle.bc_stream.specs.declared.record.ValuesRead.{ValuesRead}
-use Rattle.bc_stream.specs.Bits.{low_bits, bits_of, Place, ◌then◌, chunks_bits, Chunked, Vbr, Vbrs}
+use Rattle.bc_stream.specs.Bits.{low_bits, Place, ◌then◌, chunks_bits, Chunked, Vbr, Vbrs}
 use Rattle.bc_stream.specs.Reading.{place_in, NoNumber, Holds, HoldAll, NumberAt, SkippedAt, ListAt, ValuesAt, NoValues, CountWithin, NoRecord}
 use Rattle.bc_stream.proofs.BitLemmas.{length-low_bits}
 use Rattle.bc_stream.proofs.StepLemmas.{vbr_once}

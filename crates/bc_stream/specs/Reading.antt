@@ -1,7 +1,7 @@
 -- What is read at places of bytes. Only the reader's own functions cite it.
 --
 -- What is read is said with the bits it takes, and where nothing is read, that no reading of its kind begins there.
-use Rattle.std.specs.Prelude.{◌≡◌, ℕ, suc, ◌+◌, ◌*◌, ◌%◌, ◌^◌, ◌<◌, ◌≤◌, min, List, [], ◌∷◌, length, take, drop, Option, Some, None}
+use Rattle.std.specs.Prelude.{◌≡◌, ℕ, ◌+◌, ◌*◌, ◌%◌, ◌^◌, ◌<◌, ◌≤◌, min, List, length, take, drop, Option, Some, None}
 use Rattle.std.specs.List.{All}
 use Rattle.bc_stream.specs.declared.reader.Number.{Number}
 use Rattle.bc_stream.specs.declared.record.ValuesRead.{ValuesRead}

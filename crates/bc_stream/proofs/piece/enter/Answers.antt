@@ -1,5 +1,5 @@
 use Rattle.std.proofs.Common.{arith}
-use Rattle.bc_stream.proofs.PieceLemmas.{fault_at, cut_enter, large_id, large_width, too_deep_head, zero_head, good_head}
+use Rattle.bc_stream.proofs.PieceLemmas.{fault_at, cut_enter, large_id, large_width, too_deep_head, zero_head}
 use Rattle.bc_stream.proofs.piece.enter.Goals as goal
 
 pub returns-in_default : goal.returns-in_default

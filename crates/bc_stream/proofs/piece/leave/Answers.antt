@@ -1,4 +1,4 @@
-use Rattle.bc_stream.proofs.PieceLemmas.{fault_at, cut_leave, outside_leave, wrong_leave, good_leave}
+use Rattle.bc_stream.proofs.PieceLemmas.{fault_at, cut_leave}
 use Rattle.bc_stream.proofs.piece.leave.Goals as goal
 
 pub returns-in_default : goal.returns-in_default

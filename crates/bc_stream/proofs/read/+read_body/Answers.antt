@@ -1,4 +1,4 @@
-use Rattle.std.proofs.Common.{subst, arith}
+use Rattle.std.proofs.Common.{subst}
 use Rattle.std.proofs.lemmas.Result.{err_from_is_err_and}
 use Rattle.bc_stream.specs.Blocks.{parts_contents}
 use Rattle.bc_stream.specs.Pieces.{PieceAt}

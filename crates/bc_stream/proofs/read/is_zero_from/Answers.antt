@@ -1,4 +1,4 @@
-use Rattle.std.proofs.Common.{◌-◌, ◌/◌, ◌≡◌, List, ℕ, length, take, drop, get_or, ◌<◌, subst, sym, arith}
+use Rattle.std.proofs.Common.{◌-◌, ◌/◌, List, ℕ, length, take, drop, get_or, ◌<◌, subst, sym, arith}
 use Rattle.std.proofs.lemmas.List.{take_rest}
 use Rattle.bc_stream.proofs.BodyLemmas.{zeros_from}
 use Rattle.bc_stream.proofs.ReaderLemmas.{rest_bytes}

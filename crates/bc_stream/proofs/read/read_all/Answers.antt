@@ -1,4 +1,4 @@
-use Rattle.std.proofs.Common.{refl, arith}
+use Rattle.std.proofs.Common.{refl}
 use Rattle.std.proofs.lemmas.Result.{err_from_is_err_and}
 use Rattle.bc_stream.specs.declared.read.TheConstants.{OUTSIDE}
 use Rattle.bc_stream.specs.Blocks.{contents_of}

@@ -1,4 +1,4 @@
-use Rattle.std.proofs.Common.{◌+◌, ◌-◌, ◌*◌, ◌^◌, ap, arith}
+use Rattle.std.proofs.Common.{◌+◌, ◌-◌, ap, arith}
 use Rattle.std.proofs.lemmas.Nat.{shl_whole}
 use Rattle.bc_stream.proofs.ReaderLemmas.{fixed_of, fixed_of_two}
 use Rattle.bc_stream.proofs.reader.read_long.Goals as goal

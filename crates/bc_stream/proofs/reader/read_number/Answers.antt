@@ -1,4 +1,4 @@
-use Rattle.std.proofs.Common.{◌+◌, ◌<◌, ◌^◌, refl, arith}
+use Rattle.std.proofs.Common.{◌+◌, ◌<◌, refl, arith}
 use Rattle.std.proofs.lemmas.Nat.{one_shl}
 use Rattle.bc_stream.specs.Reading.{place_in}
 use Rattle.bc_stream.proofs.ChunkLemmas.{no_chunk, only_chunk}

@@ -1,5 +1,10 @@
 pub mod BitLemmas
 pub mod BlockLemmas
+pub mod BodyLemmas
+pub mod ChunkLemmas
+pub mod PieceLemmas
+pub mod ReaderLemmas
+pub mod RecordLemmas
 pub mod SpellingLaw
 pub mod StepLemmas
 pub mod WriterLemmas

@@ -1,4 +1,5 @@
 pub mod BitLemmas
+pub mod BlockCount
 pub mod BlockLemmas
 pub mod BodyLemmas
 pub mod ChunkLemmas

@@ -1,3 +1,4 @@
+pub mod Check
 pub mod Compiled
 pub mod Emitted
 pub mod FirstForm

@@ -1,6 +1,7 @@
 //! The compiler and its tool as a library.
 #![tactic(auto)]
 
+pub mod checker;
 pub mod commands;
 pub mod compiler;
 mod container;
@@ -11,6 +12,7 @@ mod scan;
 pub mod status;
 mod stores;
 
+pub use checker::{CheckFault, check};
 pub use commands::tool;
 pub use compiler::{CompileFault, compile};
 pub use refusal::Refusal;

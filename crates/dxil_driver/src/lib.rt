@@ -2,6 +2,7 @@
 #![tactic(auto)]
 
 pub mod checker;
+pub mod command;
 pub mod commands;
 pub mod compiler;
 mod container;
@@ -13,6 +14,7 @@ pub mod status;
 mod stores;
 
 pub use checker::{CheckFault, check};
+pub use command::Command;
 pub use commands::tool;
 pub use compiler::{CompileFault, compile};
 pub use refusal::Refusal;

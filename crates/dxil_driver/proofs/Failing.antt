@@ -1,5 +1,5 @@
 -- The fault of a layer is the reason why bytes are refused.
-use mathlib.Core.Logic.{◌⊎◌, inl, inr}
+use mathlib.Core.Logic.{inl, inr}
 use Rattle.std.proofs.Common.{◌≡◌, ℕ, List, refl, sym, subst}
 use Rattle.std.specs.Prelude.{Result, Ok, Err, MatchResult, IsErrAnd}
 use Rattle.ir_core.specs.declared.module.Module.{Module}
@@ -16,7 +16,6 @@ use Rattle.dx_validate.specs.declared.verdict.Invalid.{Invalid}
 use Rattle.dx_validate.specs.declared.verdict.Invalid.TheVariants.{Broken, Memory as NoRoomToValidate}
 use Rattle.dxil_driver.specs.Compiled.{Spells}
 use Rattle.dxil_driver.specs.Check.{Holds, in_stream, in_records, in_module, of_stream, of_records, of_verdict, IsRefused}
-use Rattle.dxil_driver.specs.declared.checker.CheckFault.{CheckFault}
 
 -- what holds of the error holds of the answer that has it
 pub exit : {T E : Type 0} (P : T → Type 0) (Q : E → Type 0) (r : Result T E) (e : E) → IsErrAnd r (λ f. f ≡ e) → Q e → MatchResult r P Q

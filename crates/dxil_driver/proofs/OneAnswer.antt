@@ -1,7 +1,7 @@
 -- Bytes pass with one module or fail for one fault, by the laws of the layers.
-use mathlib.Core.Logic.{◌⊎◌, inl, inr}
-use Rattle.std.proofs.Common.{◌≡◌, ℕ, ◌+◌, ◌<◌, ◌≤◌, List, ◌∷◌, ◌++◌, length, refl, ap, sym, ◌∙◌, subst, arith}
-use Rattle.std.specs.Prelude.{All, Contains, Result, Ok, Err, IsErrOf}
+use mathlib.Core.Logic.{inl, inr}
+use Rattle.std.proofs.Common.{◌≡◌, ℕ, List, ◌∷◌, length, ap, sym, ◌∙◌, subst, arith}
+use Rattle.std.specs.Prelude.{All, Result, Ok, Err}
 use Rattle.std.proofs.lemmas.List.Elements.{All-head}
 use Rattle.ir_core.specs.declared.module.Module.{Module}
 use Rattle.ir_core.specs.declared.spot.Spot.{Spot}
@@ -9,11 +9,11 @@ use Rattle.bc_stream.specs.Blocks.{Contents}
 use Rattle.bc_stream.specs.Spelling.{Spelled, Faulty, OneList, OneFault, NoFault}
 use Rattle.bc_stream.specs.declared.fault.StreamFault.TheVariants.{Bad as BadStream}
 use Rattle.bc_records.specs.FaultSites.{Site, site, IsFree}
-use Rattle.bc_records.specs.Records.{Recorded, OneModule}
+use Rattle.bc_records.specs.Records.{OneModule}
 use Rattle.bc_records.specs.RecordFaults.{IsFault, record_sites, OneRecordFault, NoRecordFault}
 use Rattle.bc_records.specs.declared.fault.RecordFault.TheVariants.{Bad as BadRecord}
 use Rattle.bc_records.proofs.Tests.{all_right}
-use Rattle.dx_container.specs.Container.{Contained, FaultIs}
+use Rattle.dx_container.specs.Container.{FaultIs}
 use Rattle.dx_container.specs.Laws.{AtMostOneContent, AtMostOneFault, ContainedHasNoFault}
 use Rattle.dx_container.specs.declared.content.ContainerFault.{ContainerFault}
 use Rattle.ir_core.specs.ValidatorRules.{Breaks}
@@ -97,8 +97,10 @@ module _ (laws : Laws) (bytes : List ℕ) where
     where
       part_of : IsAtOrBefore s t → IsAtOrBefore t s → s.part ≡ t.part
       part_of p q = grind (arith, p, q)
+
       first_of : IsAtOrBefore s t → IsAtOrBefore t s → s.first ≡ t.first
       first_of p q = grind (arith, p, q)
+
       second_of : IsAtOrBefore s t → IsAtOrBefore t s → s.second ≡ t.second
       second_of p q = grind (arith, p, q)
 
@@ -108,8 +110,8 @@ module _ (laws : Laws) (bytes : List ℕ) where
       let own : IsVerdict m rule spot = subst (λ (n : Module). IsVerdict n rule spot) (same_m f.m g.m f.spells g.spells) f.verdict in
       let rules : rule ≡ other = omega (arith, own.least other there g.verdict.broken, g.verdict.least rule spot own.broken) in
       let spots : spot ≡ there = same_spot spot there
-          (own.first there (subst (λ (r : ℕ). Breaks m r there) (sym rules) g.verdict.broken))
-          (g.verdict.first spot (subst (λ (r : ℕ). Breaks m r spot) rules own.broken)) in
+      (own.first there (subst (λ (r : ℕ). Breaks m r there) (sym rules) g.verdict.broken))
+      (g.verdict.first spot (subst (λ (r : ℕ). Breaks m r spot) rules own.broken)) in
       ap (λ r. Rules r spot) rules ∙ ap (λ s. Rules other s) spots
 
   one_fault : (fault other : CheckFault) → Fails bytes fault → Fails bytes other → fault ≡ other

@@ -1,8 +1,8 @@
 -- An input that isn't refused isn't a reason to stop.
-use Rattle.std.proofs.Common.{◌≡◌, ℕ, ◌<◌, ◌≤◌, List, [], ◌∷◌, length, refl, ap, sym, ◌∙◌, subst, arith}
-use mathlib.Core.Logic.{◌⊎◌, inl, inr}
+use Rattle.std.proofs.Common.{◌≡◌, ℕ, ◌≤◌, List, length, refl, sym, ◌∙◌, subst, arith}
+use mathlib.Core.Logic.{inl, inr}
 use Rattle.std.specs.Io.KnownBytes.{Keeps}
-use Rattle.std.specs.Prelude.{◌≢◌, IfErr, IfSome, None, Some, Result, Ok, Err}
+use Rattle.std.specs.Prelude.{◌≢◌, IfErr, IfSome, None, Some, Result, Ok}
 use Rattle.std.specs.declared.option.Option.{Option}
 use Rattle.ir_core.specs.declared.module.Module.{Module}
 use Rattle.bc_stream.specs.declared.fault.StreamFault.TheVariants.{Bad as BadStream}

@@ -51,7 +51,12 @@ fn other_words_are_answered_with_the_usage(rt: HostRuntime) -> Result<(), Fail> 
     for words in lists {
         let mut input = PlainSource::new(Bytes::new(rt.alloc()));
         let run = run_tool(&rt, words, &mut input, &[])?;
-        assert_refused(&rt, &run, Status::Usage, b"usage: dxil_cli compile | check\n");
+        assert_refused(
+            &rt,
+            &run,
+            Status::Usage,
+            b"usage: dxil_cli compile | check\n",
+        );
     }
     Ok(())
 }

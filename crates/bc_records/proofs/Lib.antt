@@ -31,3 +31,4 @@ pub mod AgreeModule
 pub mod FreeModules
 pub mod NoRecordFault
 pub mod OneRecordFault
+pub mod ReadSteps

@@ -1,0 +1,55 @@
+-- A loop over the parts of a block: what its state gives with the parts that are left is the whole.
+use Rattle.std.proofs.Common.{◌≡◌, ℕ, ◌+◌, ◌<◌, ◌≤◌, List, [], ◌∷◌, length, drop, get_or, refl, ap, sym, ◌∙◌}
+use Rattle.std.proofs.lemmas.List.{drop_more, drop_all}
+use Rattle.bc_stream.specs.Blocks.{Contents, no_more, a_record, a_block, before_part, parts_contents}
+use Rattle.bc_stream.specs.declared.block.Entry as entry_type
+use Rattle.bc_stream.specs.declared.block.Part.{Part}
+use Rattle.bc_stream.specs.declared.block.Part.TheVariants.{Block, Entry}
+use Rattle.bc_stream.specs.declared.block.BlockTree.{BlockTree}
+use Rattle.bc_stream.proofs.BlockLemmas.{before_part-Block, before_part-Entry, before_block-is, parts_contents-first, parts_contents-none}
+use Rattle.bc_records.proofs.Steps.{drop-zero}
+
+-- what the parts from a place on hold
+abbrev pub from : List Part → ℕ → Contents
+from parts i = parts_contents (drop i parts)
+
+pub from_start : (parts : List Part) → from parts 0 ≡ parts_contents parts
+from_start parts = ap parts_contents (drop-zero parts)
+
+part_next : (parts : List Part) (i : ℕ) (part : Part) → i < length parts → part ≡ get_or parts i part →
+    from parts i ≡ before_part part (from parts (i + 1))
+part_next parts i part below is =
+    ap parts_contents (drop_more parts i part below ∙ ap (λ p. p ∷ drop (i + 1) parts) (sym is)) ∙ parts_contents-first part (drop (i + 1) parts)
+
+pub record_next : (parts : List Part) (i : ℕ) (part : Part) (e : entry_type.Entry) → i < length parts → part ≡ get_or parts i part → part ≡ Entry e →
+    from parts i ≡ a_record e.code e.values (from parts (i + 1))
+record_next parts i part e below is form =
+    part_next parts i part below is ∙ (ap (λ p. before_part p (from parts (i + 1))) form ∙ before_part-Entry e (from parts (i + 1)))
+
+pub block_next : (parts : List Part) (i : ℕ) (part : Part) (b : BlockTree) → i < length parts → part ≡ get_or parts i part → part ≡ Block b →
+    from parts i ≡ a_block b.id (parts_contents b.parts) (from parts (i + 1))
+block_next parts i part b below is form =
+    part_next parts i part below is
+    ∙ (ap (λ p. before_part p (from parts (i + 1))) form ∙ (before_part-Block b (from parts (i + 1)) ∙ before_block-is b (from parts (i + 1))))
+
+pub from_end : (parts : List Part) (i : ℕ) → length parts ≤ i → from parts i ≡ no_more
+from_end parts i past = ap parts_contents (drop_all i parts past) ∙ parts_contents-none
+
+-- `old` and `new` say what the states before and after a part give with what is left
+module _ {Y : Type 0} (old : Contents → Y) (new : Contents → Y) (whole : Y) (parts : List Part) (i : ℕ) (part : Part) where
+  pub record_step : (e : entry_type.Entry) → i < length parts → part ≡ get_or parts i part → part ≡ Entry e →
+      ((rest : Contents) → new rest ≡ old (a_record e.code e.values rest)) →
+      old (from parts i) ≡ whole → new (from parts (i + 1)) ≡ whole
+  record_step e below is form step so_far = step (from parts (i + 1)) ∙ (ap old (sym (record_next parts i part e below is form)) ∙ so_far)
+
+  pub block_step : (b : BlockTree) → i < length parts → part ≡ get_or parts i part → part ≡ Block b →
+      ((rest : Contents) → new rest ≡ old (a_block b.id (parts_contents b.parts) rest)) →
+      old (from parts i) ≡ whole → new (from parts (i + 1)) ≡ whole
+  block_step b below is form step so_far = step (from parts (i + 1)) ∙ (ap old (sym (block_next parts i part b below is form)) ∙ so_far)
+
+module _ {Y : Type 0} (old : Contents → Y) (whole : Y) (parts : List Part) where
+  pub begin : old (parts_contents parts) ≡ whole → old (from parts 0) ≡ whole
+  begin e = ap old (from_start parts) ∙ e
+
+  pub stop : (i : ℕ) → length parts ≤ i → old (from parts i) ≡ whole → old no_more ≡ whole
+  stop i past so_far = ap old (sym (from_end parts i past)) ∙ so_far

@@ -1,0 +1,6 @@
+//! The module that a block list says, whatever is at fault in it.
+//!
+//! Numbers are taken modulo the size of their fields, what is missing is empty, and what names nothing is passed by.
+
+mod operands;
+mod types;

@@ -1,5 +1,6 @@
 -- A loop over the parts of a block: what its state gives with the parts that are left is the whole.
-use Rattle.std.proofs.Common.{◌≡◌, ℕ, ◌+◌, ◌<◌, ◌≤◌, List, [], ◌∷◌, length, drop, get_or, refl, ap, sym, ◌∙◌}
+use Rattle.std.proofs.Common.{◌≡◌, ◌≢◌, ℕ, ◌+◌, ◌<◌, ◌≤◌, List, [], ◌∷◌, ◌++◌, append_assoc, length, drop, get_or, refl, ap, sym, ◌∙◌}
+use Rattle.std.specs.Prelude.{flat_map}
 use Rattle.std.proofs.lemmas.List.{drop_more, drop_all}
 use Rattle.bc_stream.specs.Blocks.{Contents, no_more, a_record, a_block, before_part, parts_contents}
 use Rattle.bc_stream.specs.declared.block.Entry as entry_type
@@ -7,6 +8,8 @@ use Rattle.bc_stream.specs.declared.block.Part.{Part}
 use Rattle.bc_stream.specs.declared.block.Part.TheVariants.{Block, Entry}
 use Rattle.bc_stream.specs.declared.block.BlockTree.{BlockTree}
 use Rattle.bc_stream.proofs.BlockLemmas.{before_part-Block, before_part-Entry, before_block-is, parts_contents-first, parts_contents-none}
+use Rattle.bc_records.specs.Entries.{blocks_in}
+use Rattle.bc_records.proofs.Numbers.{test_same, test_other}
 use Rattle.bc_records.proofs.Steps.{drop-zero}
 
 -- what the parts from a place on hold
@@ -53,3 +56,51 @@ module _ {Y : Type 0} (old : Contents → Y) (whole : Y) (parts : List Part) whe
 
   pub stop : (i : ℕ) → length parts ≤ i → old (from parts i) ≡ whole → old no_more ≡ whole
   stop i past so_far = ap old (sym (from_end parts i past)) ∙ so_far
+
+-- the blocks of an id, where the first part is a record, another block, or such a block
+pub skip_record : (id : ℕ) (part : Part) (e : entry_type.Entry) (rest : Contents) → part ≡ Entry e →
+    blocks_in id (before_part part rest) ≡ blocks_in id rest
+skip_record id part e rest form = ap (blocks_in id) (ap (λ p. before_part p rest) form ∙ before_part-Entry e rest)
+
+block_is : (part : Part) (b : BlockTree) (rest : Contents) → part ≡ Block b →
+    before_part part rest ≡ a_block b.id (parts_contents b.parts) rest
+block_is part b rest form = ap (λ p. before_part p rest) form ∙ (before_part-Block b rest ∙ before_block-is b rest)
+
+pub skip_block : (id : ℕ) (part : Part) (b : BlockTree) (rest : Contents) → part ≡ Block b → b.id ≢ id →
+    blocks_in id (before_part part rest) ≡ blocks_in id rest
+skip_block id part b rest form other =
+    ap (blocks_in id) (block_is part b rest form)
+    ∙ test_other b.id id (parts_contents b.parts ∷ blocks_in id rest) (blocks_in id rest) other
+
+pub take_block : (id : ℕ) (part : Part) (b : BlockTree) (rest : Contents) → part ≡ Block b → b.id ≡ id →
+    blocks_in id (before_part part rest) ≡ parts_contents b.parts ∷ blocks_in id rest
+take_block id part b rest form same =
+    ap (blocks_in id) (block_is part b rest form)
+    ∙ test_same b.id id (parts_contents b.parts ∷ blocks_in id rest) (blocks_in id rest) same
+
+-- a step whatever the part is
+module _ {Y : Type 0} (old : Contents → Y) (new : Contents → Y) (whole : Y) (parts : List Part) (i : ℕ) (part : Part) where
+  pub part_step : i < length parts → part ≡ get_or parts i part → ((rest : Contents) → new rest ≡ old (before_part part rest)) →
+      old (from parts i) ≡ whole → new (from parts (i + 1)) ≡ whole
+  part_step below is step so_far = step (from parts (i + 1)) ∙ (ap old (sym (part_next parts i part below is)) ∙ so_far)
+
+-- a loop over the blocks of an id, which adds what each of them gives
+module _ {X : Type 0} (of : Contents → List X) (id : ℕ) where
+  pub skipped : (so_far whole : List X) (parts : List Part) (i : ℕ) (part : Part) → i < length parts → part ≡ get_or parts i part →
+      ((rest : Contents) → blocks_in id (before_part part rest) ≡ blocks_in id rest) →
+      so_far ++ flat_map of (blocks_in id (from parts i)) ≡ whole → so_far ++ flat_map of (blocks_in id (from parts (i + 1))) ≡ whole
+  skipped so_far whole parts i part below is none before =
+      let gives : Contents → List X = λ rest. so_far ++ flat_map of (blocks_in id rest) in
+      part_step gives gives whole parts i part below is (λ rest. ap (λ bs. so_far ++ flat_map of bs) (sym (none rest))) before
+
+  pub taken : (so_far more whole : List X) (parts : List Part) (i : ℕ) (part : Part) (block : Contents) → i < length parts → part ≡ get_or parts i part →
+      ((rest : Contents) → blocks_in id (before_part part rest) ≡ block ∷ blocks_in id rest) →
+      more ≡ so_far ++ of block →
+      so_far ++ flat_map of (blocks_in id (from parts i)) ≡ whole → more ++ flat_map of (blocks_in id (from parts (i + 1))) ≡ whole
+  taken so_far more whole parts i part block below is one grown before =
+      part_step (λ rest. so_far ++ flat_map of (blocks_in id rest)) (λ rest. more ++ flat_map of (blocks_in id rest)) whole parts i part below is
+      (λ rest.
+        ap (λ ys. ys ++ flat_map of (blocks_in id rest)) grown
+        ∙ (append_assoc so_far (of block) (flat_map of (blocks_in id rest))
+        ∙ ap (λ bs. so_far ++ flat_map of bs) (sym (one rest))))
+      before

@@ -2,5 +2,8 @@
 //!
 //! Numbers are taken modulo the size of their fields, what is missing is empty, and what names nothing is passed by.
 
+mod blocks;
+mod constants;
+mod metadata;
 mod operands;
 mod types;

@@ -32,3 +32,4 @@ pub mod FreeModules
 pub mod NoRecordFault
 pub mod OneRecordFault
 pub mod ReadSteps
+pub mod ReadNames

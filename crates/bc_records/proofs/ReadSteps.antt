@@ -1,6 +1,7 @@
 -- A loop over the parts of a block: what its state gives with the parts that are left is the whole.
 use Rattle.std.proofs.Common.{◌≡◌, ◌≢◌, ℕ, ◌+◌, ◌<◌, ◌≤◌, List, [], ◌∷◌, ◌++◌, append_assoc, length, drop, get_or, refl, ap, sym, ◌∙◌}
-use Rattle.std.specs.Prelude.{flat_map}
+use Rattle.std.specs.Prelude.{flat_map, IfOk, Ok, Err}
+use Rattle.std.specs.declared.result.Result.{Result}
 use Rattle.std.proofs.lemmas.List.{drop_more, drop_all}
 use Rattle.bc_stream.specs.Blocks.{Contents, no_more, a_record, a_block, before_part, parts_contents}
 use Rattle.bc_stream.specs.declared.block.Entry as entry_type
@@ -104,3 +105,8 @@ module _ {X : Type 0} (of : Contents → List X) (id : ℕ) where
         ∙ (append_assoc so_far (of block) (flat_map of (blocks_in id rest))
         ∙ ap (λ bs. so_far ++ flat_map of bs) (sym (one rest))))
       before
+
+-- an answer that is equal to a second value, where it is equal to a first
+pub ok_same : {X E : Type 0} (r : Result X E) (x y : X) → IfOk r (λ z. z ≡ x) → x ≡ y → IfOk r (λ z. z ≡ y)
+ok_same (Ok z) x y is same = is ∙ same
+ok_same (Err e) x y is same = tt

@@ -3,7 +3,9 @@
 //! Numbers are taken modulo the size of their fields, what is missing is empty, and what names nothing is passed by.
 
 mod blocks;
+mod bodies;
 mod constants;
 mod metadata;
+mod names;
 mod operands;
 mod types;

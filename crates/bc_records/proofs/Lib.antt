@@ -33,3 +33,4 @@ pub mod NoRecordFault
 pub mod OneRecordFault
 pub mod ReadSteps
 pub mod ReadNames
+pub mod ReadInstructions

@@ -9,7 +9,7 @@ ghost use Rattle.bc_stream.specs.Blocks.{parts_contents};
 ghost use Rattle.bc_records.specs.BodyRecords.{absolute, filled_blocks};
 ghost use Rattle.bc_records.specs.Entries.{Entry as AnEntry, entries_in, entry as an_entry};
 ghost use Rattle.bc_records.specs.Read.{block_of, read_body, read_count, read_instructions, up_to, word, words};
-ghost use Rattle.bc_records.specs.ReadBodies.{blocks_with, filled_after};
+ghost use Rattle.bc_records.specs.ReadBodies.{blocks_with, filled_after, unless_empty};
 ghost use Rattle.bc_records.specs.RecordKinds.{first_operand, operand};
 
 use super::constants::constants_in;
@@ -40,8 +40,9 @@ fn value_at(next: u32, operand: u64) -> u32
 fn read_call(alloc: Global, next: u32, operands: &[u64]) -> Result<Inst, NoMemory>
     ensures { IfOk result (λ inst. inst ≡ Call (absolute next (word (operand operands.now 3))) (map (absolute next) (words (drop 4 operands.now)))) }
 {
-    let mut args = Vec::with_capacity(alloc, operands.len())?;
-    for argument in after(operands, CALL_FRONT) {
+    let arguments = after(operands, CALL_FRONT);
+    let mut args = Vec::with_capacity(alloc, arguments.len())?;
+    for argument in arguments {
         args.push(value_at(next, *argument))?;
     }
     Ok(Inst::Call {
@@ -66,18 +67,19 @@ fn is_last(inst: &Inst) -> bool
 fn push_inst(
     alloc: Global,
     blocks: &mut Blocks,
-    open: &mut Insts,
+    insts: &mut Insts,
     inst: Inst,
 ) -> Result<(), NoMemory>
-    ensures { OnOk result ((rest : List AnInst) → blocks.new ++ map block_of (filled_after open.new rest) ≡ blocks.old ++ map block_of (filled_after open.old (inst ∷ rest))) }
+    ensures { OnOk result ((rest : List AnInst) → blocks.new ++ map block_of (filled_after insts.new rest) ≡ blocks.old ++ map block_of (filled_after insts.old (inst ∷ rest))) }
 {
     let last = is_last(&inst);
-    open.push(inst)?;
+    insts.push(inst)?;
     if !last {
         return Ok(());
     }
-    let insts = mem::replace(open, Insts::new(alloc));
-    blocks.push(Block { insts })
+    blocks.push(Block {
+        insts: mem::replace(insts, Insts::new(alloc)),
+    })
 }
 
 /// Adds the instruction of a record, where the next value has the number `next` modulo 2^32.
@@ -85,21 +87,32 @@ fn push_record(
     alloc: Global,
     module: &Module,
     blocks: &mut Blocks,
-    open: &mut Insts,
+    insts: &mut Insts,
     next: &mut u32,
     entry: &Entry,
 ) -> Result<(), NoMemory>
-    ensures { OnOk result ((rest : List AnEntry) → blocks_with «module».now blocks.new open.new next.new rest ≡ blocks_with «module».now blocks.old open.old next.old (an_entry entry.now.code entry.now.values ∷ rest)) }
+    ensures { OnOk result ((rest : List AnEntry) → blocks_with «module».now blocks.new insts.new next.new rest ≡ blocks_with «module».now blocks.old insts.old next.old (an_entry entry.now.code entry.now.values ∷ rest)) }
 {
     match entry.code {
         DECLAREBLOCKS => Ok(()),
-        INST_RET => push_inst(alloc, blocks, open, Inst::Ret),
+        INST_RET => push_inst(alloc, blocks, insts, Inst::Ret),
         _ => {
             let call = read_call(alloc, *next, entry.values.as_slice())?;
             *next = low_word(after_inst(module, u64::from(*next), &call));
-            push_inst(alloc, blocks, open, call)
+            push_inst(alloc, blocks, insts, call)
         }
     }
+}
+
+/// The blocks, and last the open block where it has an instruction.
+fn close(mut blocks: Blocks, insts: Insts) -> Result<Blocks, NoMemory>
+    ensures { IfOk result (λ all. all ≡ blocks ++ map block_of (unless_empty insts)) }
+{
+    if insts.is_empty() {
+        return Ok(blocks);
+    }
+    blocks.push(Block { insts })?;
+    Ok(blocks)
 }
 
 /// The blocks that the instructions of a body fill, where its first value has the number `first`.
@@ -107,18 +120,15 @@ fn filled(alloc: Global, module: &Module, first: u64, parts: &Parts) -> Result<B
     ensures { IfOk result (λ blocks. blocks ≡ map block_of (filled_blocks (read_instructions «module».now first (entries_in (parts_contents parts.now))))) }
 {
     let mut blocks = Blocks::new(alloc);
-    let mut open = Insts::new(alloc);
+    let mut insts = Insts::new(alloc);
     let mut next = low_word(first);
     for part in parts.as_slice() {
         match part {
-            Part::Entry(entry) => push_record(alloc, module, &mut blocks, &mut open, &mut next, entry)?,
+            Part::Entry(entry) => push_record(alloc, module, &mut blocks, &mut insts, &mut next, entry)?,
             Part::Block(_) => {}
         }
     }
-    if !open.is_empty() {
-        blocks.push(Block { insts: open })?;
-    }
-    Ok(blocks)
+    close(blocks, insts)
 }
 
 /// The number of blocks that a body declares first, and 0 where it declares none.
@@ -126,10 +136,13 @@ fn block_count(parts: &Parts) -> u32
     ensures { result ≡ read_count (entries_in (parts_contents parts.now)) }
 {
     for part in parts.as_slice() {
-        if let Part::Entry(entry) = part {
-            if entry.code == DECLAREBLOCKS {
-                return word_at(entry.values.as_slice(), 0);
+        match part {
+            Part::Entry(entry) => {
+                if entry.code == DECLAREBLOCKS {
+                    return word_at(entry.values.as_slice(), 0);
+                }
             }
+            Part::Block(_) => {}
         }
     }
     0

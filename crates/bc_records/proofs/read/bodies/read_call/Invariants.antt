@@ -4,4 +4,4 @@ use Rattle.bc_records.specs.Read.{words}
 use Rattle.bc_records.proofs.read.bodies.read_call.Given as goal
 
 abbrev pub invariant-loop-argument : goal.invariant-loop-argument
-invariant-loop-argument l = l.args.items ≡ map (absolute l.next) (words (take l.argument-index l.argument-items))
+invariant-loop-argument l = l.args.items ≡ map (absolute l.next) (words (take l.argument-index l.arguments))

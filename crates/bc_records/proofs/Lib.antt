@@ -34,3 +34,4 @@ pub mod OneRecordFault
 pub mod ReadSteps
 pub mod ReadNames
 pub mod ReadInstructions
+pub mod ReadDefined

@@ -89,10 +89,11 @@ unfolding goes_on
 after_filled before [] = refl
 after_filled before (inst ∷ insts) =
     elim (ends_block inst) as (λ t.
-      (if t then (before ++ inst ∷ []) ∷ filled_after [] insts else filled_after (before ++ inst ∷ []) insts)
-      ≡ goes_on before (if t then (inst ∷ []) ∷ filled_blocks insts else before_first inst (filled_blocks insts)))
-    [ true ↦ ap (λ bs. (before ++ inst ∷ []) ∷ bs) (after_filled [] insts ∙ nothing (filled_blocks insts))
-    | false ↦ after_filled (before ++ inst ∷ []) insts ∙ goes_on-more before inst (filled_blocks insts) ]
+    (if t then (before ++ inst ∷ []) ∷ filled_after [] insts else filled_after (before ++ inst ∷ []) insts)
+    ≡ goes_on before (if t then (inst ∷ []) ∷ filled_blocks insts else before_first inst (filled_blocks insts))) [
+      | true ↦ ap (λ bs. (before ++ inst ∷ []) ∷ bs) (after_filled [] insts ∙ nothing (filled_blocks insts))
+      | false ↦ after_filled (before ++ inst ∷ []) insts ∙ goes_on-more before inst (filled_blocks insts)
+    ]
 
 pub filled_from_none : (insts : List Inst) → filled_after [] insts ≡ filled_blocks insts
 filled_from_none insts = after_filled [] insts ∙ nothing (filled_blocks insts)

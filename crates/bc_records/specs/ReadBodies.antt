@@ -1,5 +1,5 @@
 -- Bodies as they are read: one record after the other, and one function after the other.
-use Rattle.std.specs.Prelude.{ℕ, if◌then◌else◌, Option, None, Some, List, [], ◌∷◌, ◌++◌, map, drop, option_map}
+use Rattle.std.specs.Prelude.{ℕ, zero, suc, if◌then◌else◌, Option, None, Some, List, [], ◌∷◌, ◌++◌, map, drop, option_map}
 use Rattle.ir_core.specs.declared.instruction.Inst.{Inst}
 use Rattle.ir_core.specs.declared.instruction.Block.{Block}
 use Rattle.ir_core.specs.declared.instruction.Body.{Body}
@@ -39,8 +39,8 @@ body_blocks (operands ∷ rest) blocks =
 
 -- the bodies of functions, each of its block
 abbrev pub bodies_of : Module → List (Option Contents) → List Function → List (Option Body)
-bodies_of m blocks [] = []
-bodies_of m [] (f ∷ fs) = None ∷ bodies_of m [] fs
+bodies_of m [] fs = []
+bodies_of m (block ∷ blocks) [] = []
 bodies_of m (block ∷ blocks) (f ∷ fs) = option_map (read_body m f) block ∷ bodies_of m blocks fs
 
 -- a function with a body, where there is one
@@ -52,3 +52,9 @@ abbrev pub with_bodies : List Function → List (Option Body) → List Function
 with_bodies [] bodies = []
 with_bodies (f ∷ fs) [] = f ∷ fs
 with_bodies (f ∷ fs) (body ∷ bodies) = with_body f body ∷ with_bodies fs bodies
+
+-- functions, where the one at a place has a body
+abbrev pub with_body_at : List Function → (place : ℕ) → Option Body → List Function
+with_body_at [] place body = []
+with_body_at (f ∷ fs) zero body = with_body f body ∷ fs
+with_body_at (f ∷ fs) (suc place) body = f ∷ with_body_at fs place body

@@ -5,7 +5,11 @@
 mod blocks;
 mod bodies;
 mod constants;
+mod defined;
 mod metadata;
+mod module;
 mod names;
 mod operands;
 mod types;
+
+pub(crate) use module::read_module;

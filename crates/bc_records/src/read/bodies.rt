@@ -124,7 +124,14 @@ fn filled(alloc: Global, module: &Module, first: u64, parts: &Parts) -> Result<B
     let mut next = low_word(first);
     for part in parts.as_slice() {
         match part {
-            Part::Entry(entry) => push_record(alloc, module, &mut blocks, &mut insts, &mut next, entry)?,
+            Part::Entry(entry) => push_record(
+                alloc,
+                module,
+                &mut blocks,
+                &mut insts,
+                &mut next,
+                entry,
+            )?,
             Part::Block(_) => {}
         }
     }

@@ -8,9 +8,7 @@ ghost use Rattle.bc_records.specs.Read.{read_metadata, read_metas, read_named, r
 
 use super::blocks::parts_of;
 use super::operands::{low_word, read_text, read_words, word_at};
-use crate::codes::{
-    METADATA_BLOCK, METADATA_NAME, METADATA_NODE, METADATA_STRING, METADATA_VALUE,
-};
+use crate::codes::{METADATA_BLOCK, METADATA_NAME, METADATA_NODE, METADATA_STRING, METADATA_VALUE};
 use base_core::{NoMemory, Text};
 use bc_stream::{Entry, Part, Parts};
 use ir_core::{Meta, MetaIds, Metas, Named, NamedList};
@@ -56,14 +54,18 @@ fn push_metadata(
 {
     let operands = entry.values.as_slice();
     match entry.code {
-        METADATA_STRING => metadata.metas.push(Meta::Chars(read_text(alloc, operands)?)),
+        METADATA_STRING => metadata
+            .metas
+            .push(Meta::Chars(read_text(alloc, operands)?)),
         METADATA_VALUE => {
             metadata.metas.push(Meta::Value {
                 ty: word_at(operands, 0),
                 value: word_at(operands, 1),
             })
         }
-        METADATA_NODE => metadata.metas.push(Meta::Node(parts_of_node(alloc, operands)?)),
+        METADATA_NODE => metadata
+            .metas
+            .push(Meta::Node(parts_of_node(alloc, operands)?)),
         METADATA_NAME => {
             *name = read_text(alloc, operands)?;
             Ok(())

@@ -3,13 +3,14 @@
 ghost use Rattle.std.specs.Prelude.{◌≡◌, [], ◌∷◌, ◌++◌, List, IfOk, OnOk, map};
 ghost use Rattle.bc_stream.specs.Blocks.{parts_contents};
 ghost use Rattle.bc_records.specs.Entries.{entries_in, entry as an_entry};
-ghost use Rattle.bc_records.specs.Read.{read_type};
+ghost use Rattle.bc_records.specs.Read.{read_type, read_types};
 ghost use Rattle.bc_records.specs.TypeRecords.{TypeRecord, table_of};
 
+use super::blocks::next_block;
 use super::operands::{after, read_text, read_words, word_at};
 use crate::codes::{
     TYPE_FUNCTION, TYPE_INTEGER, TYPE_METADATA, TYPE_NUMENTRY, TYPE_POINTER, TYPE_STRUCT_NAME,
-    TYPE_STRUCT_NAMED,
+    TYPE_STRUCT_NAMED, TYPES_BLOCK,
 };
 use base_core::{NoMemory, Text};
 use bc_stream::{Entry, Part, Parts};
@@ -58,10 +59,7 @@ fn push_type(
 }
 
 /// The type table of a block TYPE_NEW.
-///
-/// # Errors
-/// `NoMemory` where memory is refused.
-pub fn read_types(alloc: Global, parts: &Parts) -> Result<Types, NoMemory>
+fn types_of(alloc: Global, parts: &Parts) -> Result<Types, NoMemory>
     ensures { IfOk result (λ types. types ≡ table_of [] (map read_type (entries_in (parts_contents parts.now)))) }
 {
     let mut types = Types::new(alloc);
@@ -73,4 +71,17 @@ pub fn read_types(alloc: Global, parts: &Parts) -> Result<Types, NoMemory>
         }
     }
     Ok(types)
+}
+
+/// The type table of the first block TYPE_NEW in a block.
+///
+/// # Errors
+/// `NoMemory` where memory is refused.
+pub fn types_in(alloc: Global, inner: &Parts) -> Result<Types, NoMemory>
+    ensures { IfOk result (λ types. types ≡ read_types (parts_contents inner.now)) }
+{
+    match next_block(inner.as_slice(), TYPES_BLOCK) {
+        None => Ok(Types::new(alloc)),
+        Some((parts, _)) => types_of(alloc, parts),
+    }
 }

@@ -27,13 +27,13 @@ loop-part-preserved c =
     let parts = c.as_slice-part-items.result.now in
     let whole = count_of (parts_contents parts) in
     elim c.match-part.branch [
-      in-Entry+else-entry-eq-DECLAREBLOCKS w ↦
-        record_step count_of count_of whole parts c.loop-part.part-index c.part-item.result w.in-Entry.entry
-        c.loop-part-test.true c.part-item.is w.in-Entry.is
-        (λ rest. sym (count_later w.in-Entry.entry.code w.in-Entry.entry.values (entries_in rest) w.if-entry-eq-DECLAREBLOCKS.false)) c.loop-part.invariant
-    | in-Block w ↦
-        block_step count_of count_of whole parts c.loop-part.part-index c.part-item.result w.in-Block.field-0
-        c.loop-part-test.true c.part-item.is w.in-Block.is (λ rest. refl) c.loop-part.invariant
+      | in-Entry+else-entry-eq-DECLAREBLOCKS w ↦
+          record_step count_of count_of whole parts c.loop-part.part-index c.part-item.result w.in-Entry.entry
+          c.loop-part-test.true c.part-item.is w.in-Entry.is
+          (λ rest. sym (count_later w.in-Entry.entry.code w.in-Entry.entry.values (entries_in rest) w.if-entry-eq-DECLAREBLOCKS.false)) c.loop-part.invariant
+      | in-Block w ↦
+          block_step count_of count_of whole parts c.loop-part.part-index c.part-item.result w.in-Block.field-0
+          c.loop-part-test.true c.part-item.is w.in-Block.is (λ rest. refl) c.loop-part.invariant
     ]
 
 pub returns : goal.returns

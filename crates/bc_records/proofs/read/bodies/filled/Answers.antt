@@ -23,15 +23,15 @@ loop-part-preserved c =
     let whole = with_left m [] [] (word c.args.first) (parts_contents parts) in
     let old = with_left m c.loop-part.blocks c.loop-part.insts c.loop-part.next in
     elim c.match-part.branch [
-      in-Entry+in_ok-push_record-in-Entry w ↦
-        rw (w.blocks-is, w.insts-is, w.next-is)
-        (record_step old (with_left m w.push_record.new.blocks w.push_record.new.insts w.push_record.new.next) whole parts c.loop-part.part-index c.part-item.result w.in-Entry.entry
-        c.loop-part-test.true c.part-item.is w.in-Entry.is
-        (λ rest. w.in_ok-push_record-in-Entry.ensures (entries_in rest)) c.loop-part.invariant)
-    | in-Block w ↦
-        rw (w.blocks-is, w.insts-is, w.next-is)
-        (block_step old old whole parts c.loop-part.part-index c.part-item.result w.in-Block.field-0
-        c.loop-part-test.true c.part-item.is w.in-Block.is (λ rest. refl) c.loop-part.invariant)
+      | in-Entry+in_ok-push_record-in-Entry w ↦
+          rw (w.blocks-is, w.insts-is, w.next-is)
+          (record_step old (with_left m w.push_record.new.blocks w.push_record.new.insts w.push_record.new.next) whole parts c.loop-part.part-index c.part-item.result w.in-Entry.entry
+          c.loop-part-test.true c.part-item.is w.in-Entry.is
+          (λ rest. w.in_ok-push_record-in-Entry.ensures (entries_in rest)) c.loop-part.invariant)
+      | in-Block w ↦
+          rw (w.blocks-is, w.insts-is, w.next-is)
+          (block_step old old whole parts c.loop-part.part-index c.part-item.result w.in-Block.field-0
+          c.loop-part-test.true c.part-item.is w.in-Block.is (λ rest. refl) c.loop-part.invariant)
     ]
 
 pub returns : goal.returns

@@ -18,6 +18,6 @@ returns-in_ok-call-in_default c =
     let after_is : c.low_word.result ≡ word (next_value m next call) = c.low_word.ensures ∙ ap word (c.after_inst.ensures ∙ ap (λ n. next_value m n call) c.from.ensures) in
     on_ok c.push_inst-in_default.result c.push_inst-in_default.ensures
     (λ pushed. λ rest.
-      pushed (read_instructions m c.low_word.result rest)
-      ∙ ap (λ is. c.args.blocks.now ++ map block_of (filled_after c.args.insts.now is))
-      (call_first m next c.low_word.result code values call rest other other_too call_is after_is))
+    pushed (read_instructions m c.low_word.result rest)
+    ∙ ap (λ is. c.args.blocks.now ++ map block_of (filled_after c.args.insts.now is))
+    (call_first m next c.low_word.result code values call rest other other_too call_is after_is))

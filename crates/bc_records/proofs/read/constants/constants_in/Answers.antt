@@ -18,14 +18,14 @@ loop-part-preserved c =
     let parts = c.as_slice-part-items.result.now in
     let whole = read_constants (parts_contents parts) in
     elim c.match-parts_of.branch [
-      in-Some+in_ok-push_block w ↦
-        rw w.constants-is
-        (taken of_block constants_block c.loop-part.constants w.push_block.new.constants whole parts c.loop-part.part-index c.part-item.result
-        (parts_contents w.in-Some.parts.now) c.loop-part-test.true c.part-item.is w.in-Some.ensures w.in_ok-push_block.ensures c.loop-part.invariant)
-    | in_default w ↦
-        rw w.constants-is
-        (skipped of_block constants_block c.loop-part.constants whole parts c.loop-part.part-index c.part-item.result
-        c.loop-part-test.true c.part-item.is w.in_default.ensures c.loop-part.invariant)
+      | in-Some+in_ok-push_block w ↦
+          rw w.constants-is
+          (taken of_block constants_block c.loop-part.constants w.push_block.new.constants whole parts c.loop-part.part-index c.part-item.result
+          (parts_contents w.in-Some.parts.now) c.loop-part-test.true c.part-item.is w.in-Some.ensures w.in_ok-push_block.ensures c.loop-part.invariant)
+      | in_default w ↦
+          rw w.constants-is
+          (skipped of_block constants_block c.loop-part.constants whole parts c.loop-part.part-index c.part-item.result
+          c.loop-part-test.true c.part-item.is w.in_default.ensures c.loop-part.invariant)
     ]
 
 pub returns : goal.returns

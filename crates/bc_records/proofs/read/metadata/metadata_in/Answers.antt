@@ -20,22 +20,22 @@ pub loop-part-preserved : goal.loop-part-preserved
 loop-part-preserved c =
     let parts = c.as_slice-part-items.result.now in
     elim c.match-parts_of.branch [
-      in-Some+in_ok-push_block w ↦
-        rw w.metadata-is
-        record {
-          metas = taken metas_in metadata_block c.loop-part.metadata.metas w.push_block.new.metadata.metas (read_metas (parts_contents parts)) parts c.loop-part.part-index c.part-item.result
-              (parts_contents w.in-Some.parts.now) c.loop-part-test.true c.part-item.is w.in-Some.ensures w.in_ok-push_block.ensures.metas c.loop-part.invariant.metas;
-          named = taken named_in metadata_block c.loop-part.metadata.named w.push_block.new.metadata.named (read_named (parts_contents parts)) parts c.loop-part.part-index c.part-item.result
-              (parts_contents w.in-Some.parts.now) c.loop-part-test.true c.part-item.is w.in-Some.ensures w.in_ok-push_block.ensures.named c.loop-part.invariant.named;
-        }
-    | in_default w ↦
-        rw w.metadata-is
-        record {
-          metas = skipped metas_in metadata_block c.loop-part.metadata.metas (read_metas (parts_contents parts)) parts c.loop-part.part-index c.part-item.result
-              c.loop-part-test.true c.part-item.is w.in_default.ensures c.loop-part.invariant.metas;
-          named = skipped named_in metadata_block c.loop-part.metadata.named (read_named (parts_contents parts)) parts c.loop-part.part-index c.part-item.result
-              c.loop-part-test.true c.part-item.is w.in_default.ensures c.loop-part.invariant.named;
-        }
+      | in-Some+in_ok-push_block w ↦
+          rw w.metadata-is
+          record {
+            metas = taken metas_in metadata_block c.loop-part.metadata.metas w.push_block.new.metadata.metas (read_metas (parts_contents parts)) parts c.loop-part.part-index c.part-item.result
+                (parts_contents w.in-Some.parts.now) c.loop-part-test.true c.part-item.is w.in-Some.ensures w.in_ok-push_block.ensures.metas c.loop-part.invariant.metas;
+            named = taken named_in metadata_block c.loop-part.metadata.named w.push_block.new.metadata.named (read_named (parts_contents parts)) parts c.loop-part.part-index c.part-item.result
+                (parts_contents w.in-Some.parts.now) c.loop-part-test.true c.part-item.is w.in-Some.ensures w.in_ok-push_block.ensures.named c.loop-part.invariant.named;
+          }
+      | in_default w ↦
+          rw w.metadata-is
+          record {
+            metas = skipped metas_in metadata_block c.loop-part.metadata.metas (read_metas (parts_contents parts)) parts c.loop-part.part-index c.part-item.result
+                c.loop-part-test.true c.part-item.is w.in_default.ensures c.loop-part.invariant.metas;
+            named = skipped named_in metadata_block c.loop-part.metadata.named (read_named (parts_contents parts)) parts c.loop-part.part-index c.part-item.result
+                c.loop-part-test.true c.part-item.is w.in_default.ensures c.loop-part.invariant.named;
+          }
     ]
 
 pub returns-clause-metas : goal.returns-clause-metas

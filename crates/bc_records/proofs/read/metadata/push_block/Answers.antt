@@ -24,22 +24,22 @@ loop-part-preserved c =
     let old_metas = metas_left c.loop-part.metadata.metas c.loop-part.name in
     let old_named = named_left c.loop-part.metadata.named c.loop-part.name in
     elim c.match-part.branch [
-      in-Entry+in_ok-push_metadata-in-Entry w ↦
-        rw (w.metadata-is, w.name-is)
-        record {
-          metas = record_step old_metas (metas_left w.push_metadata.new.metadata.metas w.push_metadata.new.name) all_metas parts c.loop-part.part-index c.part-item.result w.in-Entry.entry
-              c.loop-part-test.true c.part-item.is w.in-Entry.is (λ rest. w.in_ok-push_metadata-in-Entry.ensures.metas (entries_in rest)) c.loop-part.invariant.metas;
-          named = record_step old_named (named_left w.push_metadata.new.metadata.named w.push_metadata.new.name) all_named parts c.loop-part.part-index c.part-item.result w.in-Entry.entry
-              c.loop-part-test.true c.part-item.is w.in-Entry.is (λ rest. w.in_ok-push_metadata-in-Entry.ensures.named (entries_in rest)) c.loop-part.invariant.named;
-        }
-    | in-Block w ↦
-        rw (w.metadata-is, w.name-is)
-        record {
-          metas = block_step old_metas old_metas all_metas parts c.loop-part.part-index c.part-item.result w.in-Block.field-0
-              c.loop-part-test.true c.part-item.is w.in-Block.is (λ rest. refl) c.loop-part.invariant.metas;
-          named = block_step old_named old_named all_named parts c.loop-part.part-index c.part-item.result w.in-Block.field-0
-              c.loop-part-test.true c.part-item.is w.in-Block.is (λ rest. refl) c.loop-part.invariant.named;
-        }
+      | in-Entry+in_ok-push_metadata-in-Entry w ↦
+          rw (w.metadata-is, w.name-is)
+          record {
+            metas = record_step old_metas (metas_left w.push_metadata.new.metadata.metas w.push_metadata.new.name) all_metas parts c.loop-part.part-index c.part-item.result w.in-Entry.entry
+                c.loop-part-test.true c.part-item.is w.in-Entry.is (λ rest. w.in_ok-push_metadata-in-Entry.ensures.metas (entries_in rest)) c.loop-part.invariant.metas;
+            named = record_step old_named (named_left w.push_metadata.new.metadata.named w.push_metadata.new.name) all_named parts c.loop-part.part-index c.part-item.result w.in-Entry.entry
+                c.loop-part-test.true c.part-item.is w.in-Entry.is (λ rest. w.in_ok-push_metadata-in-Entry.ensures.named (entries_in rest)) c.loop-part.invariant.named;
+          }
+      | in-Block w ↦
+          rw (w.metadata-is, w.name-is)
+          record {
+            metas = block_step old_metas old_metas all_metas parts c.loop-part.part-index c.part-item.result w.in-Block.field-0
+                c.loop-part-test.true c.part-item.is w.in-Block.is (λ rest. refl) c.loop-part.invariant.metas;
+            named = block_step old_named old_named all_named parts c.loop-part.part-index c.part-item.result w.in-Block.field-0
+                c.loop-part-test.true c.part-item.is w.in-Block.is (λ rest. refl) c.loop-part.invariant.named;
+          }
     ]
 
 pub returns-clause-metas : goal.returns-clause-metas

@@ -20,20 +20,20 @@ loop-part-preserved c =
     let functions = c.loop-part.functions.items in
     let whole = with_left c.in_ok-functions.functions.items (parts_contents parts) in
     elim c.match-parts_of.branch [
-      in-Some+in_ok-name_functions w ↦
-        rw w.functions-is
-        (part_step (with_left functions) (with_left w.name_functions.new.functions.items) whole parts c.loop-part.part-index c.part-item.result
-        c.loop-part-test.true c.part-item.is
-        (λ rest.
+      | in-Some+in_ok-name_functions w ↦
+          rw w.functions-is
+          (part_step (with_left functions) (with_left w.name_functions.new.functions.items) whole parts c.loop-part.part-index c.part-item.result
+          c.loop-part-test.true c.part-item.is
+          (λ rest.
           names_then functions w.name_functions.new.functions.items (entries_in (parts_contents w.in-Some.parts.now)) (all_of (blocks_in symbols_block rest)) w.in_ok-name_functions.ensures
           ∙ ap (λ bs. with_names functions (map read_symbol (all_of bs))) (sym (w.in-Some.ensures rest)))
-        c.loop-part.invariant)
-    | in_default w ↦
-        rw w.functions-is
-        (part_step (with_left functions) (with_left functions) whole parts c.loop-part.part-index c.part-item.result
-        c.loop-part-test.true c.part-item.is
-        (λ rest. ap (λ bs. with_names functions (map read_symbol (all_of bs))) (sym (w.in_default.ensures rest)))
-        c.loop-part.invariant)
+          c.loop-part.invariant)
+      | in_default w ↦
+          rw w.functions-is
+          (part_step (with_left functions) (with_left functions) whole parts c.loop-part.part-index c.part-item.result
+          c.loop-part-test.true c.part-item.is
+          (λ rest. ap (λ bs. with_names functions (map read_symbol (all_of bs))) (sym (w.in_default.ensures rest)))
+          c.loop-part.invariant)
     ]
 
 pub returns : goal.returns

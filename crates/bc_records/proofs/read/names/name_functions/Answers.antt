@@ -17,15 +17,15 @@ loop-part-preserved c =
     let whole = with_left c.args.functions.now.items (parts_contents parts) in
     let old = with_left c.loop-part.functions.items in
     elim c.match-part.branch [
-      in-Entry+in_ok-name_function-in-Entry w ↦
-        rw w.functions-is
-        (record_step old (with_left w.name_function.new.functions.items) whole parts c.loop-part.part-index c.part-item.result w.in-Entry.entry
-        c.loop-part-test.true c.part-item.is w.in-Entry.is
-        (λ rest. w.in_ok-name_function-in-Entry.ensures (map read_symbol (entries_in rest))) c.loop-part.invariant)
-    | in-Block w ↦
-        rw w.functions-is
-        (block_step old old whole parts c.loop-part.part-index c.part-item.result w.in-Block.field-0
-        c.loop-part-test.true c.part-item.is w.in-Block.is (λ rest. refl) c.loop-part.invariant)
+      | in-Entry+in_ok-name_function-in-Entry w ↦
+          rw w.functions-is
+          (record_step old (with_left w.name_function.new.functions.items) whole parts c.loop-part.part-index c.part-item.result w.in-Entry.entry
+          c.loop-part-test.true c.part-item.is w.in-Entry.is
+          (λ rest. w.in_ok-name_function-in-Entry.ensures (map read_symbol (entries_in rest))) c.loop-part.invariant)
+      | in-Block w ↦
+          rw w.functions-is
+          (block_step old old whole parts c.loop-part.part-index c.part-item.result w.in-Block.field-0
+          c.loop-part-test.true c.part-item.is w.in-Block.is (λ rest. refl) c.loop-part.invariant)
     ]
 
 pub returns : goal.returns

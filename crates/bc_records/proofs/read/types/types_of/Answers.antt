@@ -5,8 +5,8 @@ use Rattle.bc_records.specs.Entries.{entries_in}
 use Rattle.bc_records.specs.Read.{read_type}
 use Rattle.bc_records.specs.TypeRecords.{table_of}
 use Rattle.bc_records.proofs.ReadSteps.{record_step, block_step, stop}
-use Rattle.bc_records.proofs.read.types.read_types.Goals as goal
-use Rattle.bc_records.proofs.read.types.read_types.Goals.{in-Entry+in_ok-push_type-in-Entry, in-Block}
+use Rattle.bc_records.proofs.read.types.types_of.Goals as goal
+use Rattle.bc_records.proofs.read.types.types_of.Goals.{in-Entry+in_ok-push_type-in-Entry, in-Block}
 
 -- the whole table, where the entries so far and the name stand before what is left
 abbrev with_left : List Ty → List ℕ → Contents → List Ty
@@ -18,15 +18,15 @@ loop-part-preserved c =
     let whole = table_of [] (map read_type (entries_in (parts_contents parts))) in
     let old = with_left c.loop-part.types c.loop-part.name in
     elim c.match-part.branch [
-      in-Entry+in_ok-push_type-in-Entry w ↦
-        rw (w.types-is, w.name-is)
-        (record_step old (with_left w.push_type.new.types w.push_type.new.name) whole parts c.loop-part.part-index c.part-item.result w.in-Entry.entry
-        c.loop-part-test.true c.part-item.is w.in-Entry.is
-        (λ rest. w.in_ok-push_type-in-Entry.ensures (map read_type (entries_in rest))) c.loop-part.invariant)
-    | in-Block w ↦
-        rw (w.types-is, w.name-is)
-        (block_step old old whole parts c.loop-part.part-index c.part-item.result w.in-Block.field-0
-        c.loop-part-test.true c.part-item.is w.in-Block.is (λ rest. refl) c.loop-part.invariant)
+      | in-Entry+in_ok-push_type-in-Entry w ↦
+          rw (w.types-is, w.name-is)
+          (record_step old (with_left w.push_type.new.types w.push_type.new.name) whole parts c.loop-part.part-index c.part-item.result w.in-Entry.entry
+          c.loop-part-test.true c.part-item.is w.in-Entry.is
+          (λ rest. w.in_ok-push_type-in-Entry.ensures (map read_type (entries_in rest))) c.loop-part.invariant)
+      | in-Block w ↦
+          rw (w.types-is, w.name-is)
+          (block_step old old whole parts c.loop-part.part-index c.part-item.result w.in-Block.field-0
+          c.loop-part-test.true c.part-item.is w.in-Block.is (λ rest. refl) c.loop-part.invariant)
     ]
 
 pub returns : goal.returns

@@ -4,7 +4,7 @@ use Rattle.bc_records.specs.Entries.{entries_in}
 use Rattle.bc_records.specs.Read.{read_type}
 use Rattle.bc_records.specs.TypeRecords.{table_of}
 use Rattle.bc_records.proofs.ReadSteps.{from}
-use Rattle.bc_records.proofs.read.types.read_types.Given as goal
+use Rattle.bc_records.proofs.read.types.types_of.Given as goal
 
 abbrev pub invariant-loop-part : goal.invariant-loop-part
 invariant-loop-part l =

@@ -1,16 +1,16 @@
 -- Functions with their bodies.
-use Rattle.std.proofs.Common.{◌≡◌, ◌≢◌, Bor, unwrap_or, ℕ, zero, suc, ◌+◌, ◌-◌, ◌<◌, ◌≤◌, Bool, true, false, Option, None, Some, List, [], ◌∷◌, ◌++◌, append_assoc, map, length, take, drop, get_or, refl, ap, sym, ◌∙◌, arith}
+use Rattle.std.proofs.Common.{◌≡◌, Bor, unwrap_or, ℕ, zero, suc, ◌+◌, ◌-◌, ◌<◌, ◌≤◌, true, false, Option, None, Some, List, [], ◌∷◌, ◌++◌, append_assoc, map, length, take, drop, get_or, refl, ap, sym, ◌∙◌, arith}
 use Rattle.std.specs.Prelude.{if◌then◌else◌, option_map, slice_get, slice_set}
-use Rattle.std.proofs.lemmas.List.{drop_more, drop_all, take_all, map-append, length-drop}
+use Rattle.std.proofs.lemmas.List.{drop_all, take_all, length-drop}
 use Rattle.ir_core.specs.declared.instruction.Body.{Body}
 use Rattle.ir_core.specs.declared.module.Function.{Function}
 use Rattle.ir_core.specs.declared.module.Module.{Module}
-use Rattle.bc_stream.specs.Blocks.{Contents, no_more, parts_contents}
+use Rattle.bc_stream.specs.Blocks.{Contents, parts_contents}
 use Rattle.bc_stream.specs.declared.block.Part.{Part}
 use Rattle.bc_records.specs.Entries.{Entry, entry}
 use Rattle.bc_records.specs.RecordKinds.{function_entries, has_body}
 use Rattle.bc_records.specs.Read.{read_body, with_code, with_first}
-use Rattle.bc_records.specs.ReadBodies.{first_block, body_blocks, bodies_of, with_body, with_bodies, with_body_at}
+use Rattle.bc_records.specs.ReadBodies.{body_blocks, bodies_of, with_body, with_bodies, with_body_at}
 use Rattle.bc_records.proofs.Numbers.{test_same}
 
 -- what blocks hold

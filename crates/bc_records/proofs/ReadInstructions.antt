@@ -1,5 +1,5 @@
 -- Instructions, one record after the other.
-use Rattle.std.proofs.Common.{◌≡◌, ◌≢◌, ℕ, suc, ◌+◌, ◌-◌, ◌%◌, ◌^◌, ◌<◌, Bool, true, false, List, [], ◌∷◌, ◌++◌, append_assoc, append-nil, map, length, drop, get_or, refl, ap, sym, ◌∙◌, arith}
+use Rattle.std.proofs.Common.{◌≡◌, ◌≢◌, ℕ, suc, ◌%◌, ◌^◌, Bool, true, false, List, [], ◌∷◌, ◌++◌, append_assoc, map, drop, refl, ap, sym, ◌∙◌, arith}
 use Rattle.std.specs.Prelude.{◌==◌, if◌then◌else◌, slice_get, OnOk, Ok, Err}
 use Rattle.std.specs.declared.result.Result.{Result}
 use Rattle.std.specs.Option.{option_map_or}
@@ -10,7 +10,7 @@ use Rattle.ir_core.specs.Soundness.{ends_block}
 use Rattle.ir_core.specs.Values.{has_value}
 use Rattle.bc_records.specs.BodyRecords.{absolute, before_first, filled_blocks, next_value}
 use Rattle.bc_records.specs.Entries.{Entry, entry}
-use Rattle.bc_records.specs.RecordKinds.{first_operand, operand}
+use Rattle.bc_records.specs.RecordKinds.{operand}
 use Rattle.bc_records.specs.Read.{word, words, read_count, read_instructions}
 use Rattle.bc_records.specs.ReadBodies.{filled_after, unless_empty}
 use Rattle.bc_records.proofs.Numbers.{test_same, test_other}

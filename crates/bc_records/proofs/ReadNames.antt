@@ -1,9 +1,9 @@
 -- Functions with names.
-use Rattle.std.proofs.Common.{◌≡◌, ℕ, zero, suc, ◌+◌, ◌<◌, ◌≤◌, List, [], ◌∷◌, ◌++◌, map, length, get_or, refl, ap, sym, ◌∙◌, arith}
+use Rattle.std.proofs.Common.{◌≡◌, ℕ, zero, suc, ◌<◌, ◌≤◌, List, [], ◌∷◌, ◌++◌, map, length, get_or, refl, ap, sym, ◌∙◌, arith}
 use Rattle.std.specs.Prelude.{slice_set}
 use Rattle.std.proofs.lemmas.List.{map-append}
 use Rattle.ir_core.specs.declared.module.Function.{Function}
-use Rattle.bc_records.specs.Entries.{Entry, entries_in}
+use Rattle.bc_records.specs.Entries.{Entry}
 use Rattle.bc_records.specs.SymbolRecords.{SymbolRecord, symbol}
 use Rattle.bc_records.specs.Read.{read_symbol, with_name, with_names}
 

@@ -1,5 +1,5 @@
 -- A loop over the parts of a block: what its state gives with the parts that are left is the whole.
-use Rattle.std.proofs.Common.{◌≡◌, ◌≢◌, ℕ, ◌+◌, ◌<◌, ◌≤◌, List, [], ◌∷◌, ◌++◌, append_assoc, length, drop, get_or, refl, ap, sym, ◌∙◌}
+use Rattle.std.proofs.Common.{◌≡◌, ◌≢◌, ℕ, ◌+◌, ◌<◌, ◌≤◌, List, ◌∷◌, ◌++◌, append_assoc, length, drop, get_or, ap, sym, ◌∙◌}
 use Rattle.std.specs.Prelude.{flat_map, IfOk, Ok, Err}
 use Rattle.std.specs.declared.result.Result.{Result}
 use Rattle.std.proofs.lemmas.List.{drop_more, drop_all}

@@ -1,5 +1,5 @@
 use Rattle.std.proofs.Common.{◌+◌, ◌∙◌, ◌∷◌, ap, sym}
-use Rattle.bc_stream.specs.Blocks.{Contents, parts_contents}
+use Rattle.bc_stream.specs.Blocks.{parts_contents}
 use Rattle.bc_records.specs.Entries.{blocks_in}
 use Rattle.bc_records.proofs.ReadSteps.{from, next_part, part_step, stop}
 use Rattle.bc_records.proofs.ReadDefined.{slice_from}

@@ -1,4 +1,4 @@
-use Rattle.std.proofs.Common.{◌≡◌, ℕ, ◌+◌, ◌∙◌, ap, sym, refl}
+use Rattle.std.proofs.Common.{ℕ, ◌+◌, ◌∙◌, ap, sym, refl}
 use Rattle.bc_stream.specs.Blocks.{Contents, parts_contents}
 use Rattle.bc_records.specs.Entries.{entries_in}
 use Rattle.bc_records.specs.Read.{read_count, word}

@@ -1,4 +1,4 @@
-use Rattle.std.proofs.Common.{◌≡◌, List, ℕ, [], ◌++◌, ◌∙◌, ◌%◌, ◌^◌, ap, refl, map, arith}
+use Rattle.std.proofs.Common.{◌≡◌, List, ℕ, [], ◌∙◌, ◌%◌, ◌^◌, ap, refl, map, arith}
 use Rattle.ir_core.specs.declared.instruction.Inst.{Inst}
 use Rattle.ir_core.specs.declared.instruction.Block.{Block}
 use Rattle.ir_core.specs.declared.module.Module.{Module}

@@ -1,4 +1,4 @@
-use Rattle.std.proofs.Common.{◌≡◌, List, ◌++◌, ◌∙◌, map, ap, sym, append-nil}
+use Rattle.std.proofs.Common.{List, ◌++◌, ◌∙◌, map, ap, sym, append-nil}
 use Rattle.ir_core.specs.declared.module.Const.{Const}
 use Rattle.bc_stream.specs.Blocks.{Contents, parts_contents}
 use Rattle.bc_records.specs.Codes.{constants_block}

@@ -1,4 +1,4 @@
-use Rattle.std.proofs.Common.{◌≡◌, ◌++◌, map}
+use Rattle.std.proofs.Common.{◌≡◌, ◌++◌}
 use Rattle.bc_stream.specs.Blocks.{parts_contents}
 use Rattle.bc_records.specs.Read.{read_constants}
 use Rattle.bc_records.proofs.ReadSteps.{from}

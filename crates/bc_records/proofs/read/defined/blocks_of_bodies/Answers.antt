@@ -1,4 +1,4 @@
-use Rattle.std.proofs.Common.{◌≡◌, Option, Bor, List, [], ◌++◌, ◌∙◌, ap, refl, sym, append-nil}
+use Rattle.std.proofs.Common.{Option, Bor, List, [], ◌++◌, ◌∙◌, ap, refl, sym, append-nil}
 use Rattle.bc_stream.specs.Blocks.{Contents, parts_contents}
 use Rattle.bc_stream.specs.declared.block.Part.{Part}
 use Rattle.bc_records.specs.Codes.{function_block}

@@ -1,7 +1,7 @@
-use Rattle.std.proofs.Common.{◌≡◌, Bool, true, Option, None, List, [], ◌∷◌, ◌∙◌, map, length, take, drop, ap, sym, Bor, ◌-◌, arith}
+use Rattle.std.proofs.Common.{◌≡◌, true, None, List, [], ◌∷◌, ◌∙◌, length, take, drop, ap, sym, Bor, ◌-◌, arith}
 use Rattle.std.specs.Prelude.{option_map}
 use Rattle.std.proofs.lemmas.List.{drop_all, map-append}
-use Rattle.bc_stream.specs.Blocks.{Contents, parts_contents}
+use Rattle.bc_stream.specs.Blocks.{parts_contents}
 use Rattle.bc_stream.specs.declared.block.Part.{Part}
 use Rattle.bc_stream.proofs.BlockLemmas.{parts_contents-none}
 use Rattle.bc_records.specs.Codes.{function_block}

@@ -1,4 +1,4 @@
-use Rattle.std.proofs.Common.{◌≡◌, ◌+◌, [], ◌∷◌, ◌++◌, ◌∙◌, ap, sym, drop, append-nil}
+use Rattle.std.proofs.Common.{◌+◌, [], ◌∷◌, ◌++◌, ◌∙◌, ap, sym, drop, append-nil}
 use Rattle.std.proofs.lemmas.List.{drop_more}
 use Rattle.bc_records.specs.ReadBodies.{bodies_of}
 use Rattle.bc_records.proofs.ReadDefined.{held, holds, body_more, here_first, no_functions, nothing_at}

@@ -1,4 +1,4 @@
-use Rattle.std.proofs.Common.{◌≡◌, rules, None, Some, [], ◌∷◌, ◌++◌, length, ◌∙◌, ap, sym}
+use Rattle.std.proofs.Common.{◌≡◌, rules, Some, [], length, ◌∙◌, ap, sym}
 use Rattle.bc_records.specs.ReadBodies.{with_bodies, with_body_at}
 use Rattle.bc_records.proofs.ReadDefined.{last_first, no_body, all_set}
 use Rattle.bc_records.proofs.read.defined.set_bodies.Goals as goal

@@ -1,4 +1,4 @@
-use Rattle.std.proofs.Common.{◌≡◌, List, [], ◌++◌, ◌∙◌, ap, sym, append-nil}
+use Rattle.std.proofs.Common.{List, [], ◌++◌, ◌∙◌, ap, sym, append-nil}
 use Rattle.ir_core.specs.declared.module.Meta.{Meta}
 use Rattle.ir_core.specs.declared.module.Named.{Named}
 use Rattle.bc_stream.specs.Blocks.{Contents, parts_contents}

@@ -1,4 +1,4 @@
-use Rattle.std.proofs.Common.{◌≡◌, ◌++◌, [], map}
+use Rattle.std.proofs.Common.{◌≡◌, ◌++◌, []}
 use Rattle.bc_stream.specs.Blocks.{parts_contents}
 use Rattle.bc_records.specs.MetadataRecords.{metas_of, named_of}
 use Rattle.bc_records.specs.Entries.{entries_in}

@@ -1,11 +1,11 @@
-use Rattle.std.proofs.Common.{◌≡◌, List, ◌∙◌, ap, sym}
+use Rattle.std.proofs.Common.{List, ◌∙◌, ap}
 use Rattle.ir_core.specs.declared.module.Function.{Function}
 use Rattle.ir_core.specs.declared.module.Module.{Module}
 use Rattle.bc_stream.specs.Blocks.{Contents, parts_contents}
 use Rattle.bc_records.specs.Codes.{function_block}
 use Rattle.bc_records.specs.Entries.{blocks_in, entries_in}
 use Rattle.bc_records.specs.Read.{with_code}
-use Rattle.bc_records.specs.ReadBodies.{bodies_of, body_blocks, with_bodies}
+use Rattle.bc_records.specs.ReadBodies.{bodies_of, with_bodies}
 use Rattle.bc_records.specs.RecordKinds.{function_entries}
 use Rattle.bc_records.proofs.ReadDefined.{held, code_is_bodies}
 use Rattle.bc_records.proofs.read.module.module_of.Goals as goal

@@ -1,4 +1,4 @@
-use Rattle.std.proofs.Common.{◌≡◌, ◌+◌, ◌∙◌, ap, sym, drop}
+use Rattle.std.proofs.Common.{◌+◌, ◌∙◌, ap, sym, drop}
 use Rattle.bc_stream.specs.Blocks.{contents_of, parts_contents}
 use Rattle.bc_records.specs.Codes.{module_block}
 use Rattle.bc_records.specs.Entries.{blocks_in}

@@ -1,6 +1,6 @@
-use Rattle.std.proofs.Common.{◌≡◌, ℕ, ◌≢◌, List, ◌+◌, ◌∷◌, ◌∙◌, ap, sym, refl}
+use Rattle.std.proofs.Common.{ℕ, List, ◌+◌, ◌∙◌, ap, sym, refl}
 use Rattle.bc_stream.specs.Blocks.{Contents, parts_contents}
-use Rattle.bc_records.specs.Entries.{Entry, entry, entries_in}
+use Rattle.bc_records.specs.Entries.{entries_in}
 use Rattle.bc_records.specs.Read.{read_text, text}
 use Rattle.bc_records.proofs.Numbers.{test_same, test_other}
 use Rattle.bc_records.proofs.ReadSteps.{from, record_next, record_step, block_step, stop, ok_same}

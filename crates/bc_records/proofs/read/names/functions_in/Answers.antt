@@ -1,4 +1,4 @@
-use Rattle.std.proofs.Common.{◌≡◌, List, ◌∙◌, ap, sym, refl, map}
+use Rattle.std.proofs.Common.{List, ◌∙◌, ap, sym, map}
 use Rattle.ir_core.specs.declared.module.Function.{Function}
 use Rattle.bc_stream.specs.Blocks.{Contents, parts_contents}
 use Rattle.bc_records.specs.Codes.{symbols_block}

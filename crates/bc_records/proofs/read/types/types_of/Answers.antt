@@ -1,4 +1,4 @@
-use Rattle.std.proofs.Common.{◌≡◌, List, ℕ, [], ◌++◌, ◌∙◌, map, ap, sym, refl, append-nil}
+use Rattle.std.proofs.Common.{List, ℕ, [], ◌++◌, ◌∙◌, map, ap, sym, refl, append-nil}
 use Rattle.ir_core.specs.declared.module.Ty.{Ty}
 use Rattle.bc_stream.specs.Blocks.{Contents, parts_contents}
 use Rattle.bc_records.specs.Entries.{entries_in}

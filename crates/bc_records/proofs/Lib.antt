@@ -45,3 +45,7 @@ pub mod ReadBodies
 pub mod ReadFunctions
 pub mod ReadModule
 pub mod ReadBlocks
+pub mod ReadSteps
+pub mod ReadNames
+pub mod ReadInstructions
+pub mod ReadDefined

@@ -14,3 +14,4 @@ pub mod FaultSites
 pub mod RecordKinds
 pub mod RecordFaults
 pub mod Read
+pub mod ReadBodies

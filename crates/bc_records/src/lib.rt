@@ -7,6 +7,7 @@ mod constants;
 pub mod laws;
 mod metadata;
 mod push;
+mod read;
 mod symbols;
 mod types;
 mod values;

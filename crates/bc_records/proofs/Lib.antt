@@ -49,3 +49,4 @@ pub mod ReadSteps
 pub mod ReadNames
 pub mod ReadInstructions
 pub mod ReadDefined
+pub mod Answering

@@ -19,30 +19,7 @@ pub blocks_alone : (blocks : List BlockTree) → entries_in (contents_of blocks)
 blocks_alone [] = ap entries_in contents_of-none
 blocks_alone (block ∷ blocks) = ap entries_in (contents_of-first block blocks) ∙ blocks_alone blocks
 
--- a type table has no more entries than records
-pub few_types : (es : List Entry) → length (type_entries es) ≤ length es
-few_types [] = omega arith
-few_types (e ∷ es) = by (is_type_entry e) (few_types es)
-  where
-    by : (b : Bool) → length (type_entries es) ≤ length es → length (if b then e ∷ type_entries es else type_entries es) ≤ length (e ∷ es)
-    by true few = omega (arith, few)
-    by false few = omega (arith, few)
-
--- and a block has no more records than parts
-one_part : (form : Part-F Part BlockTree) (part : Part) (rest : Contents) → out-Part part ≡ form → length (entries_in (before_part part rest)) ≤ length (entries_in rest) + 1
-one_part (Part-F.Block block) part rest is =
-    let e : part ≡ Block block = sym (roll-out-Part part) ∙ (ap roll-Part is ∙ rolls-Block block) in
-    omega (arith, ap (λ p. length (entries_in (before_part p rest))) e, ap (λ c. length (entries_in c)) (before_part-Block block rest ∙ before_block-is block rest))
-one_part (Part-F.Entry own) part rest is =
-    let e : part ≡ EntryPart own = sym (roll-out-Part part) ∙ (ap roll-Part is ∙ rolls-Entry own) in
-    omega (arith, ap (λ p. length (entries_in (before_part p rest))) e, ap (λ c. length (entries_in c)) (before_part-Entry own rest))
-
-pub few_records : (parts : List Part) → length (entries_in (parts_contents parts)) ≤ length parts
-few_records [] = omega (arith, ap (λ c. length (entries_in c)) parts_contents-none)
-few_records (part ∷ parts) =
-    omega (arith, ap (λ c. length (entries_in c)) (parts_contents-first part parts), one_part (out-Part part) part (parts_contents parts) refl, few_records parts)
-
 -- a block list without a fault, whose type table has fewer than 2^32 entries
-pub free_blocks_recorded : (blocks : List BlockTree) → IsWord (length (known_of (inner_of (blocks_in 8 (contents_of blocks)))).types) → All IsFree (record_sites (contents_of blocks)) →
+pub free_blocks_recorded : (blocks : List BlockTree) → IsWord (length (read_module (contents_of blocks)).types) → All IsFree (record_sites (contents_of blocks)) →
     Recorded (contents_of blocks) (read_module (contents_of blocks))
 free_blocks_recorded blocks few free = free_is_recorded (contents_of blocks) (blocks_alone blocks) few free

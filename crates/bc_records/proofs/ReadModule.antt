@@ -77,7 +77,7 @@ record Tables (inner : Contents) : Type 0 where
   constants : ConstantsTold (length (read_types inner)) (blocks_in 11 inner) (read_constants inner)
   metadata : MetadataTold (known_of inner) (blocks_in 15 inner) (read_metas inner) (read_named inner)
 
-tables_told : (inner : Contents) → ModuleHeld inner → IsWord (length (known_of inner).types) → 0 < length (blocks_in 17 inner) → Tables inner
+tables_told : (inner : Contents) → ModuleHeld inner → IsWord (length (read_types inner)) → 0 < length (blocks_in 17 inner) → Tables inner
 tables_told inner held few has =
     let known : Known = known_of inner in
     let blocks : Holds known no_more inner = held.blocks in
@@ -87,13 +87,12 @@ tables_told inner held few has =
     let types : TypesTold known b (read_types inner)
     = subst (λ bs. TypesTold known b (table_of [] (map read_type (first_of bs)))) (sym one.1)
     (types_told known b (ap (λ bs. type_entries (first_of bs)) one.1) own.0 own.1) in
-    let few_types : IsWord (length (read_types inner)) = subst IsWord types.long few in
     record {
       type_block = b;
       one_type_table = one.1;
       types = types;
-      few_types = few_types;
-      constants = constants_told (length (read_types inner)) (blocks_in 11 inner) few_types
+      few_types = few;
+      constants = constants_told (length (read_types inner)) (blocks_in 11 inner) few
           (subst (λ n. Each (Plain (λ before e after. constant_kinds n before e)) (blocks_in 11 inner)) types.long blocks.constants);
       metadata = metadata_told known (blocks_in 15 inner) blocks.metadata;
     }
@@ -198,7 +197,7 @@ range_told inner rs spelled t f names each =
       named = t.metadata.named_range;
     }
 
-inner_recorded : (inner : Contents) → ModuleHeld inner → IsWord (length (known_of inner).types) → Recorded (a_block 8 inner no_more) (read_inner inner)
+inner_recorded : (inner : Contents) → ModuleHeld inner → IsWord (length (read_types inner)) → Recorded (a_block 8 inner no_more) (read_inner inner)
 inner_recorded inner held few =
     let known : Known = known_of inner in
     let m : Module = read_inner inner in
@@ -248,8 +247,8 @@ inner_recorded inner held few =
 
 -- A block list without records outside its blocks, in which no place has a kind of fault and whose type table has
 -- fewer than 2^32 entries, records the module that it says.
-pub free_is_recorded : (c : Contents) → entries_in c ≡ [] → IsWord (length (known_of (inner_of (blocks_in 8 c))).types) → All IsFree (record_sites c) → Recorded c (read_module c)
+pub free_is_recorded : (c : Contents) → entries_in c ≡ [] → IsWord (length (read_module c).types) → All IsFree (record_sites c) → Recorded c (read_module c)
 free_is_recorded c blocks_alone few free =
     let one : OneBlock c = one_block_held c blocks_alone free in
     subst (λ b. Recorded b (read_module b)) (sym one.is)
-    (inner_recorded one.inner (module_held one.inner one.free) (subst (λ b. IsWord (length (known_of (inner_of (blocks_in 8 b))).types)) one.is few))
+    (inner_recorded one.inner (module_held one.inner one.free) (subst (λ b. IsWord (length (read_module b).types)) one.is few))

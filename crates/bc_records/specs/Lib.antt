@@ -15,3 +15,4 @@ pub mod RecordKinds
 pub mod RecordFaults
 pub mod Read
 pub mod ReadBodies
+pub mod RecordAnswers

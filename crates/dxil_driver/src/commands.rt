@@ -182,6 +182,3 @@ pub fn tool<I: Source, O: Sink, N: Sink>(
         },
     }
 }
-
-#[cfg(test)]
-mod tests;

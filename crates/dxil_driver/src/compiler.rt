@@ -57,6 +57,3 @@ pub fn compile(alloc: Global, text: &[u8]) -> Result<Bytes, CompileFault>
         }
     }
 }
-
-#[cfg(test)]
-mod tests;

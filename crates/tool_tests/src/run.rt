@@ -1,8 +1,7 @@
 //! One run for each way to end.
 
-use super::tool;
-use crate::status::Status;
 use base_core::{Bytes, Calls, MemorySink, MemorySource, PlainSource, Source};
+use dxil_driver::{Status, tool};
 use std::process::Abort;
 use std::test::Fail;
 

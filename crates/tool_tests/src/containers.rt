@@ -1,6 +1,6 @@
 //! Containers of small kernels, by their bytes as the formats give them.
 
-use super::{CompileFault, compile};
+use dxil_driver::{CompileFault, compile};
 use std::test::Fail;
 
 /// A kernel of two stores.

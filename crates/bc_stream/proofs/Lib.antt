@@ -2,6 +2,7 @@ pub mod BitLemmas
 pub mod BlockLemmas
 pub mod BodyLemmas
 pub mod ChunkLemmas
+pub mod CountLemmas
 pub mod PieceLemmas
 pub mod ReaderLemmas
 pub mod RecordLemmas

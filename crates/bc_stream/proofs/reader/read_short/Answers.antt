@@ -1,4 +1,4 @@
-use Rattle.std.proofs.Common.{◌≡◌, ◌+◌, ◌*◌, ◌%◌, ◌<◌, ◌≤◌, ◌^◌, Some, refl, arith}
+use Rattle.std.proofs.Common.{◌+◌, ◌*◌, ◌%◌, ◌<◌, ◌^◌, Some, refl, arith}
 use Rattle.std.proofs.lemmas.Nat.{one_shl}
 use Rattle.bc_stream.proofs.ReaderLemmas.{fixed_behind}
 use Rattle.bc_stream.proofs.ChunkLemmas.{with_chunk, chunk_more, chunks_end}

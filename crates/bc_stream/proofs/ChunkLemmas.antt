@@ -5,7 +5,7 @@ use Rattle.std.proofs.Math.Nat.{mod-eq_of_lt, mul-le-mul_right, mul_comm}
 use Rattle.std.proofs.lemmas.Bool.{cases_lt}
 use Rattle.std.proofs.lemmas.List.{append_assoc, length-append}
 use Rattle.std.proofs.lemmas.List.Elements.{All-head, All-tail}
-use Rattle.std.proofs.lemmas.Nat.{mod_below, pow_pos, pow-add, shr_high, mod_low, mod-mul-add, pow_below}
+use Rattle.std.proofs.lemmas.Nat.{mod_below, pow_pos, pow-add, shr_high, mod_low, mod-mul-add, pow_below, shl_whole}
 use Rattle.bc_stream.specs.Bits.{low_bits, Place, Takes, Fixed, chunks_number, chunks_bits, Chunked}
 use Rattle.bc_stream.specs.Writing.{place}
 use Rattle.bc_stream.specs.Reading.{place_in, NoNumber, FixedAt, Holds, NumberAt, ChunksAt}
@@ -13,6 +13,7 @@ use Rattle.bc_stream.proofs.BitLemmas.{length-low_bits}
 use Rattle.bc_stream.proofs.StepLemmas.{fixed_once}
 use Rattle.bc_stream.proofs.WroteLemmas.{IsChunks, flagged, last_chunk, chunk_before}
 use Rattle.bc_stream.proofs.ReaderLemmas.{takes_same, takes_then}
+use Rattle.bc_stream.proofs.WriterLemmas.{both_below}
 
 -- ---- a chunk with the bit behind it
 
@@ -137,6 +138,25 @@ only_chunk bytes unit at chunk to p below fits is = record {
   within = omega (arith, p.within);
 }
 
+-- a number of two chunks
+pub two_chunks : (bytes : List ℕ) (unit at first second number to : ℕ) → FixedAt bytes (unit + 1) at first → FixedAt bytes (unit + 1) (at + (unit + 1)) second → 2 ^ unit ≤ first → second < 2 ^ unit →
+    number ≡ first % 2 ^ unit + second * 2 ^ unit → number < 2 ^ 64 → to ≡ at + 2 * (unit + 1) → NumberAt bytes unit at (record { value = Some number; to = to })
+two_chunks bytes unit at first second number to p q flag below is fits to-is =
+    let from = place_in bytes at in
+    let middle = place_in bytes (at + (unit + 1)) in
+    let behind = place_in bytes (at + (unit + 1) + (unit + 1)) in
+    let same : at + (unit + 1) + (unit + 1) ≡ to = omega arith in
+    let reads : Chunked unit (first % 2 ^ unit + 2 ^ unit * second) from behind =
+    before_of unit first second from middle behind p.reads flag (last_of unit second middle behind q.reads below) in
+    let turned : first % 2 ^ unit + 2 ^ unit * second ≡ number = omega (arith, is, mul_comm (2 ^ unit) second) in
+    record {
+      number = number;
+      reads = subst (λ n. Chunked unit number from (place_in bytes n)) same (subst (λ n. Chunked unit n from behind) turned reads);
+      holds = (refl, fits);
+      forward = omega arith;
+      within = omega (arith, q.within);
+    }
+
 -- ---- some chunks
 
 pub no_chunks_yet : (bytes : List ℕ) (unit at sum shift : ℕ) → at ≤ 8 * length bytes → sum ≡ 0 → shift ≡ 0 → ChunksAt bytes unit at at sum shift
@@ -229,4 +249,28 @@ chunks_end bytes unit from at sum shift chunk to new value s p below to-is new-i
           (new-is ∙ (ap (λ c. min (sum + c * 2 ^ shift) (2 ^ 64)) same ∙ capped_more s.low s.places chunk sum shift s.sum-is s.shift-is));
       forward = omega (arith, s.forward);
       within = omega (arith, p.within);
+    }
+
+-- ---- chunks of a window
+
+-- a sum of few bits with a chunk more
+pub record WithChunk (unit : ℕ) (sum : ℕ) (chunk : ℕ) (shift : ℕ) (new : ℕ) : Type 0 where
+  pub new-is : new ≡ min (sum + chunk % 2 ^ unit * 2 ^ shift) (2 ^ 64)
+  pub moved-is : shift + unit ≡ min (shift + unit) 64
+  pub small : new < 2 ^ (shift + unit)
+  pub fits : new < 2 ^ 64
+
+pub with_chunk : (unit sum chunk low shift used : ℕ) → low ≡ chunk % 2 ^ unit → sum < 2 ^ shift → shift ≤ used → used + (unit + 1) ≤ 57 →
+    WithChunk unit sum chunk shift (sum + low * 2 ^ shift % 2 ^ 64)
+with_chunk unit sum chunk low shift used is small few room =
+    let below : low < 2 ^ unit = subst (λ n. n < 2 ^ unit) (sym is) (mod_below chunk (2 ^ unit) (pow_pos unit)) in
+    let whole : low * 2 ^ shift % 2 ^ 64 ≡ low * 2 ^ shift = shl_whole low unit shift 64 below (omega arith) in
+    let new : sum + low * 2 ^ shift % 2 ^ 64 ≡ sum + chunk % 2 ^ unit * 2 ^ shift = ap (λ n. sum + n) (whole ∙ ap (λ n. n * 2 ^ shift) is) in
+    let short : sum + low * 2 ^ shift % 2 ^ 64 < 2 ^ (shift + unit) = omega (arith, whole, both_below sum low shift unit small below) in
+    let fits : sum + low * 2 ^ shift % 2 ^ 64 < 2 ^ 64 = omega (arith, short, pow_below (shift + unit) 64 (omega arith)) in
+    record {
+      new-is = omega (arith, new, fits);
+      moved-is = omega arith;
+      small = short;
+      fits = fits;
     }

@@ -1,8 +1,8 @@
 pub mod BitLemmas
-pub mod BlockCount
 pub mod BlockLemmas
 pub mod BodyLemmas
 pub mod ChunkLemmas
+pub mod CountLemmas
 pub mod PieceLemmas
 pub mod ReaderLemmas
 pub mod RecordLemmas

@@ -132,6 +132,23 @@ window_of bytes at word inside front width short within =
     ∙ (drop-low_bits (k + width) k word (omega arith) ∙ ap (λ n. low_bits n (word / 2 ^ k)) left))) in
     takes_at bytes (low_bits width (word / 2 ^ k)) at width (at + width) (length-low_bits width (word / 2 ^ k)) refl bits
 
+-- the bits of a window behind its first
+pub window_behind : (bytes : List ℕ) (at word k width to : ℕ) → IsWindow bytes at word → k + width ≤ 57 → at + k + width ≤ 8 * length bytes → to ≡ at + k + width →
+    Takes (low_bits width (word / 2 ^ k)) (place_in bytes (at + k)) (place_in bytes to)
+window_behind bytes at word k width to window few within is =
+    let whole = window (k + width) few (omega arith) in
+    let rest = drop (at + (k + width)) (bits_of bytes) in
+    let split : low_bits (k + width) word ≡ low_bits k word ++ low_bits width (word / 2 ^ k) = low_bits-split k width word in
+    let here : drop (at + k) (bits_of bytes) ≡ low_bits width (word / 2 ^ k) ++ rest =
+    sym (drop-drop k at (bits_of bytes))
+    ∙ (ap (drop k) (whole.left ∙ (ap (λ l. l ++ rest) split ∙ append_assoc (low_bits k word) (low_bits width (word / 2 ^ k)) rest))
+    ∙ drop_at (low_bits k word) (low_bits width (word / 2 ^ k) ++ rest) k (length-low_bits k word)) in
+    let same : at + (k + width) ≡ to = omega arith in
+    record {
+      left = here ∙ ap (λ n. low_bits width (word / 2 ^ k) ++ drop n (bits_of bytes)) same;
+      at = omega (arith, length-low_bits width (word / 2 ^ k));
+    }
+
 -- ---- numbers in a fixed number of bits
 
 pub takes_then : (a b : List ℕ) (f m t : Place) → Takes a f m → Takes b m t → Takes (a ++ b) f t
@@ -158,6 +175,20 @@ fixed_of bytes width at word number short within window is = record {
   };
   within = within;
 }
+
+-- the bits of a window behind its first
+pub fixed_behind : (bytes : List ℕ) (width at k word number : ℕ) → k + width ≤ 57 → at + k + width ≤ 8 * length bytes → IsWindow bytes at word → number ≡ word / 2 ^ k % 2 ^ width →
+    FixedAt bytes width (at + k) number
+fixed_behind bytes width at k word number short within window is =
+    let high = word / 2 ^ k in
+    record {
+      reads = record {
+        fits = subst (λ n. n < 2 ^ width) (sym is) (mod_below high (2 ^ width) (pow_pos width));
+        takes = takes_same (low_bits width high) (low_bits width number) (place_in bytes (at + k)) (place_in bytes (at + k + width))
+            (sym (low_bits-mod width high) ∙ ap (low_bits width) (sym is)) (window_behind bytes at word k width (at + k + width) window short within refl);
+      };
+      within = within;
+    }
 
 -- the lowest 32 bits of one window and the bits of another behind them
 pub fixed_of_two : (bytes : List ℕ) (width at low high number : ℕ) → 57 < width → width ≤ 64 →

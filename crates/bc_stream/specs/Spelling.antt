@@ -5,7 +5,7 @@
 use Rattle.std.specs.Prelude.{◌≡◌, ◌≢◌, ℕ, ◌+◌, ◌*◌, ◌^◌, ◌<◌, ◌≤◌, ◌⊎◌, List, [], ◌∷◌, ◌++◌, length}
 use Rattle.std.specs.List.{All, flat_map}
 use Rattle.bc_stream.specs.Bits.{bits_of, Place, Step, ◌then◌, Fixed, Aligned, Vbr, Vbrs}
-use Rattle.bc_stream.specs.Blocks.{Contents, no_more, a_record, a_block, block_count}
+use Rattle.bc_stream.specs.Blocks.{Contents, no_more, a_record, a_block}
 
 -- ---- pieces
 
@@ -237,7 +237,3 @@ OneFault = (bytes : List ℕ) (one other at place : ℕ) → Faulty bytes one at
 -- Bytes that spell a list have no fault.
 abbrev pub NoFault : Type 0
 NoFault = (bytes : List ℕ) (blocks : Contents) (kind bit : ℕ) → Spelled bytes blocks → Faulty bytes kind bit → ⊥
-
--- Each block of a list that bytes spell has a length word of four bytes.
-abbrev pub FewBlocks : Type 0
-FewBlocks = (bytes : List ℕ) (blocks : Contents) → Spelled bytes blocks → 4 * block_count blocks ≤ length bytes

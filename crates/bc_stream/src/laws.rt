@@ -3,7 +3,7 @@
 ghost use Rattle.std.specs.Prelude.{◌≡◌, ◌≤◌, MatchResult};
 ghost use Rattle.bc_stream.specs.declared.fault.StreamFault.TheVariants.{Memory};
 ghost use Rattle.bc_stream.specs.Blocks.{HasNoBlockZero, contents_of, levels};
-ghost use Rattle.bc_stream.specs.Spelling.{FewBlocks, NoFault, OneFault, OneList, most_levels};
+ghost use Rattle.bc_stream.specs.Spelling.{NoFault, OneFault, OneList, most_levels};
 
 use crate::block::BlockList;
 use crate::fault::StreamFault;
@@ -24,11 +24,6 @@ pub fn one_fault()
 /// Bytes that spell a list of blocks have no fault.
 pub fn no_fault_in_a_spelling()
     ensures { NoFault }
-{}
-
-/// A list of blocks that bytes spell has at most one block for each four bytes.
-pub fn few_blocks()
-    ensures { FewBlocks }
 {}
 
 /// Writes blocks and reads them again.

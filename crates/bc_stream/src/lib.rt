@@ -17,6 +17,6 @@ mod writer;
 pub use block::{BlockList, BlockTree, Entry, Part, Parts, Values};
 pub use build::{no_blocks, no_parts, push_block, push_entry, push_outermost};
 pub use fault::StreamFault;
-pub use laws::{few_blocks, no_fault_in_a_spelling, one_fault, one_list, read_back};
+pub use laws::{no_fault_in_a_spelling, one_fault, one_list, read_back};
 pub use read::read_blocks;
 pub use write::write_blocks;

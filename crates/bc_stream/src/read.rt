@@ -1,11 +1,11 @@
 //! Blocks that bytes spell, read piece by piece.
 
-ghost use Rattle.std.specs.Prelude.{◌≡◌, ◌≢◌, ◌+◌, ◌*◌, ◌-◌, ◌/◌, ◌%◌, ◌^◌, ◌<◌, ◌≤◌, ◌⊎◌, ◌↔◌, [], ◌∷◌, ℕ, List, length, take, drop, IsTrue, MatchResult};
+ghost use Rattle.std.specs.Prelude.{◌≡◌, ◌≢◌, ◌+◌, ◌*◌, ◌-◌, ◌/◌, ◌%◌, ◌^◌, ◌<◌, ◌≤◌, ◌⊎◌, ◌↔◌, [], ◌∷◌, ℕ, List, length, take, drop, IsTrue, IfOk, MatchResult};
 ghost use Rattle.std.specs.Bool.{OnTrue, OnFalse};
 ghost use Rattle.std.specs.List.{All};
 ghost use Rattle.bc_stream.specs.declared.fault.StreamFault.TheVariants.{Bad, Memory};
 ghost use Rattle.bc_stream.specs.Bits.{bits_of};
-ghost use Rattle.bc_stream.specs.Blocks.{Contents, contents_of};
+ghost use Rattle.bc_stream.specs.Blocks.{Contents, block_count, contents_of};
 ghost use Rattle.bc_stream.specs.Spelling.{Faulty, IsEnd, Spelled, most_levels};
 ghost use Rattle.bc_stream.specs.Faults.{IsBad};
 ghost use Rattle.bc_stream.specs.Pieces.{state_in};
@@ -158,6 +158,9 @@ pub fn read_blocks(alloc: Global, bytes: &[u8]) -> Result<BlockList, StreamFault
     requires { length bytes.now < 2 ^ 32 }
     // The bytes spell the blocks that are answered, or have the fault that is answered.
     ensures answer { MatchResult result (λ blocks. Spelled bytes.now (contents_of blocks)) (IsBad bytes.now) }
+
+    // Each block has a word for its length, so there are fewer than 2^32.
+    ensures few { IfOk result (λ blocks. block_count (contents_of blocks) < 2 ^ 32) }
 
     // The blocks that the bytes spell are answered, unless memory runs out.
     ensures spelled { (blocks : Contents) → Spelled bytes.now blocks → MatchResult result (λ found. contents_of found ≡ blocks) (λ fault. fault ≡ Memory) }

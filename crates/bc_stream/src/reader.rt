@@ -2,7 +2,7 @@
 //!
 //! A place is a number of bits from the first of all.
 
-ghost use Rattle.std.specs.Prelude.{◌≡◌, ◌+◌, ◌*◌, ◌-◌, ◌/◌, ◌%◌, ◌^◌, ◌<◌, ◌≤◌, min, length, MatchOption};
+ghost use Rattle.std.specs.Prelude.{◌≡◌, ◌+◌, ◌*◌, ◌-◌, ◌/◌, ◌%◌, ◌^◌, ◌<◌, ◌≤◌, min, length, IfSome, MatchOption, OnSome};
 ghost use Rattle.bc_stream.specs.Bits.{Aligned, Chunked, Fixed, Place};
 ghost use Rattle.bc_stream.specs.Reading.{AlignedAt, FixedAt, IsFront, IsWindow, NoNumber, NumberAt, place_in};
 
@@ -108,24 +108,80 @@ pub(crate) fn read_fixed(bytes: &[u8], width: u32, at: usize) -> Option<u64>
     Some(read_long(bytes, width, at))
 }
 
+/// The bits from a place on, the first of them lowest, or none where fewer than eight bytes are left.
+#[inline(always)]
+fn whole_window(bytes: &[u8], at: usize) -> Option<u64>
+    requires short { length bytes.now < 2 ^ 32 }
+    requires within { at ≤ 8 * length bytes.now }
+    ensures room { OnSome result (at + 57 ≤ 8 * length bytes.now) }
+    ensures bits { IfSome result (IsWindow bytes.now at) }
+{
+    let rest = &bytes[at / 8..];
+    if rest.len() < WINDOW_BYTES {
+        return None;
+    }
+    Some(LittleEndian::read_u64(rest) >> (at % 8))
+}
+
+/// The number in chunks that a window has whole, if it has.
+fn read_short(bytes: &[u8], unit: u32, at: usize, bits: u64) -> Option<Number>
+    requires short { length bytes.now < 2 ^ 32 }
+    requires limit { unit < 16 }
+    requires room { at + 57 ≤ 8 * length bytes.now }
+    requires bits { IsWindow bytes.now at bits }
+    ensures { IfSome result (NumberAt bytes.now unit at) }
+{
+    let width = unit + 1;
+    let mut used = 0;
+    let mut sum = 0;
+    let mut shift = 0;
+    while used + width <= WINDOW_BITS {
+        let chunk = lowest(width, bits >> used);
+        used += width;
+        sum += lowest(unit, chunk) << shift;
+        if chunk < 1 << unit {
+            return Some(Number {
+                value: Some(sum),
+                to: at + used as usize,
+            });
+        }
+        shift += unit;
+    }
+    None
+}
+
 /// The number in chunks of `unit` bits from a place on, or none where the bytes end before its last chunk.
+///
+/// Most numbers have one or two chunks.
 #[inline(always)]
 pub(crate) fn read_number(bytes: &[u8], unit: u32, at: usize) -> Option<Number>
     requires short { length bytes.now < 2 ^ 32 }
-    requires limit { unit < 32 }
+    requires limit { unit < 16 }
     requires within { at ≤ 8 * length bytes.now }
     ensures { MatchOption result (NoNumber (Chunked unit) (place_in bytes.now at)) (NumberAt bytes.now unit at) }
 {
-    let Some(chunk) = read_fixed(bytes, unit + 1, at) else {
-        return None;
+    let Some(bits) = whole_window(bytes, at) else {
+        return read_chunks(bytes, unit, at);
     };
-    if chunk < 1 << unit {
+    let width = unit + 1;
+    let first = lowest(width, bits);
+    if first < 1 << unit {
         return Some(Number {
-            value: Some(chunk),
-            to: at + (unit as usize + 1),
+            value: Some(first),
+            to: at + width as usize,
         });
     }
-    read_chunks(bytes, unit, at)
+    let second = lowest(width, bits >> width);
+    if second < 1 << unit {
+        return Some(Number {
+            value: Some(lowest(unit, first) + (second << unit)),
+            to: at + 2 * width as usize,
+        });
+    }
+    match read_short(bytes, unit, at, bits) {
+        Some(number) => Some(number),
+        None => read_chunks(bytes, unit, at),
+    }
 }
 
 /// A sum up to 2^64 with a chunk more.

@@ -97,7 +97,6 @@ fn read_container(alloc: Global, bytes: &[u8]) -> Result<Module, CheckFault>
     requires { length bytes.now < 2 ^ 32 }
     ensures { MatchResult result (Spells bytes.now) (IsRefused bytes.now) }
 {
-    bc_stream::few_blocks();
     let content = unpack(bytes)?;
     let blocks = read_blocks(alloc, content.bitcode)?;
     let module = from_blocks(alloc, &blocks)?;

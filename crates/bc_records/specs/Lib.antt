@@ -14,3 +14,6 @@ pub mod FaultSites
 pub mod RecordKinds
 pub mod RecordFaults
 pub mod Read
+pub mod FaultSearch
+pub mod HeldEntries
+pub mod KnownTables

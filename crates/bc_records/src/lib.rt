@@ -4,6 +4,7 @@
 mod code;
 mod codes;
 mod constants;
+mod faults;
 pub mod laws;
 mod metadata;
 mod push;

@@ -1,0 +1,23 @@
+-- The first fault among places, where the kinds of a place ascend.
+use Rattle.std.specs.Prelude.{ℕ, Option, None, Some, List, [], ◌∷◌}
+use Rattle.bc_records.specs.declared.faults.fault.Fault.{Fault}
+use Rattle.bc_records.specs.FaultSites.{Site}
+
+abbrev pub first_kind : List ℕ → Option ℕ
+first_kind [] = None
+first_kind (kind ∷ kinds) = Some kind
+
+-- the fault of a place that has a kind
+abbrev pub fault_at : (block at : ℕ) → Option ℕ → Option Fault
+fault_at block at None = None
+fault_at block at (Some kind) = Some (record { kind = kind; block = block; at = at })
+
+-- the first of the two that there is
+abbrev pub or_else : Option Fault → Option Fault → Option Fault
+or_else None second = second
+or_else (Some fault) second = Some fault
+
+-- the first fault among places
+abbrev pub first_fault : List Site → Option Fault
+first_fault [] = None
+first_fault (s ∷ ss) = or_else (fault_at s.block s.at (first_kind s.kinds)) (first_fault ss)

@@ -1,7 +1,9 @@
 -- The first fault among places, where the kinds of a place ascend.
-use Rattle.std.specs.Prelude.{ℕ, Option, None, Some, List, [], ◌∷◌}
+use Rattle.std.specs.Prelude.{◌≡◌, ℕ, ◌<◌, Bool, Option, None, Some, List, [], ◌∷◌, length, slice_get}
 use Rattle.bc_records.specs.declared.faults.fault.Fault.{Fault}
+use Rattle.bc_records.specs.Entries.{Entry}
 use Rattle.bc_records.specs.FaultSites.{Site}
+use Rattle.bc_records.specs.RecordKinds.{names_value}
 
 abbrev pub first_kind : List ℕ → Option ℕ
 first_kind [] = None
@@ -21,3 +23,7 @@ or_else (Some fault) second = Some fault
 abbrev pub first_fault : List Site → Option Fault
 first_fault [] = None
 first_fault (s ∷ ss) = or_else (fault_at s.block s.at (first_kind s.kinds)) (first_fault ss)
+
+-- for each function, whether a record of a symbol table names it
+abbrev pub MarksNamed : List Bool → List Entry → Type 0
+MarksNamed marks records = (value : ℕ) → value < length marks → slice_get marks value ≡ Some (names_value value records)

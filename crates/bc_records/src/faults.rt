@@ -2,8 +2,11 @@
 
 mod fault;
 mod operands;
+mod body;
 mod constants;
 mod known;
 mod metadata;
+mod module_block;
+mod symbols;
 mod tables;
 mod types;

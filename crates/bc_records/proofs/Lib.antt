@@ -31,3 +31,5 @@ pub mod AgreeModule
 pub mod FreeModules
 pub mod NoRecordFault
 pub mod OneRecordFault
+pub mod FaultWalk
+pub mod FaultTables

@@ -1,6 +1,8 @@
 -- The first fault among places, where the kinds of a place ascend.
-use Rattle.std.specs.Prelude.{◌≡◌, ℕ, ◌<◌, Bool, Option, None, Some, List, [], ◌∷◌, length, slice_get}
+use Rattle.std.specs.Prelude.{◌≡◌, ℕ, ◌<◌, Bool, Result, MatchResult, Option, None, Some, List, [], ◌∷◌, length, slice_get}
 use Rattle.bc_records.specs.declared.faults.fault.Fault.{Fault}
+use Rattle.bc_records.specs.declared.faults.fault.Stop.{Stop}
+use Rattle.bc_records.specs.declared.faults.fault.Stop.TheVariants.{Found, Memory}
 use Rattle.bc_records.specs.Entries.{Entry}
 use Rattle.bc_records.specs.FaultSites.{Site}
 use Rattle.bc_records.specs.RecordKinds.{names_value}
@@ -27,3 +29,12 @@ first_fault (s ∷ ss) = or_else (fault_at s.block s.at (first_kind s.kinds)) (f
 -- for each function, whether a record of a symbol table names it
 abbrev pub MarksNamed : List Bool → List Entry → Type 0
 MarksNamed marks records = (value : ℕ) → value < length marks → slice_get marks value ≡ Some (names_value value records)
+
+-- a walk stops at the first fault, or where memory is refused
+abbrev pub IsStop : Stop → Option Fault → Type 0
+IsStop (Found fault) first = first ≡ Some fault
+IsStop Memory first = Unit {0}
+
+-- what a walk tells: that there is no fault, or the first
+abbrev pub Tells : Result (Unit {0}) Stop → Option Fault → Type 0
+Tells result first = MatchResult result (λ _. first ≡ None) (λ stop. IsStop stop first)

@@ -17,3 +17,4 @@ pub mod Read
 pub mod FaultSearch
 pub mod HeldEntries
 pub mod KnownTables
+pub mod FlatTables

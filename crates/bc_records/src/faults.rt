@@ -4,6 +4,7 @@ mod fault;
 mod operands;
 mod body;
 mod constants;
+mod flat;
 mod known;
 mod metadata;
 mod module_block;

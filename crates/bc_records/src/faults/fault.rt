@@ -1,8 +1,11 @@
 //! The fault of a block list, and the kinds of faults.
 
 ghost use Rattle.std.specs.Prelude.{◌≡◌};
-ghost use Rattle.bc_records.specs.FaultSearch.{first_kind};
+ghost use Rattle.bc_records.specs.declared.faults.fault.Stop.TheVariants.{Memory};
+ghost use Rattle.bc_records.specs.FaultSearch.{Tells, fault_at, first_kind};
 ghost use Rattle.bc_records.specs.RecordKinds.{kind_if, kind_unless};
+
+use base_core::NoMemory;
 
 /// A fault: its kind, the number of its block among all blocks in the order in which they begin, and the number of
 /// the record in that block.
@@ -40,4 +43,32 @@ pub fn when(holds: bool, kind: u8) -> Option<u8>
     ensures { result ≡ first_kind (kind_if holds kind) }
 {
     if holds { Some(kind) } else { None }
+}
+
+/// Why a walk over blocks stops.
+#[derive(Clone, Copy, Debug, PartialEq, Eq)]
+pub enum Stop {
+    /// A fault, which is the first.
+    Found(Fault),
+    /// Memory is refused.
+    Memory,
+}
+
+impl From<NoMemory> for Stop {
+    ghost from_gives = { λ _ stop. stop ≡ Memory };
+
+    fn from(_refused: NoMemory) -> Stop {
+        Stop::Memory
+    }
+}
+
+/// Goes on where a place has no kind.
+#[inline(always)]
+pub fn free_at(kind: Option<u8>, block: u32, at: u32) -> Result<(), Stop>
+    ensures { Tells result (fault_at block at kind) }
+{
+    match kind {
+        None => Ok(()),
+        Some(kind) => Err(Stop::Found(Fault { kind, block, at })),
+    }
 }

@@ -10,7 +10,7 @@ use Rattle.bc_records.specs.RecordKinds.{Known}
 use Rattle.bc_records.specs.RecordFaults.{misplaced}
 use Rattle.bc_records.proofs.FaultWalk.{head_fault}
 
-number-first : (number kind : ℕ) (id : ℕ) → misplaced id ≡ kind ∷ [] →
+pub number-first : (number kind : ℕ) (id : ℕ) → misplaced id ≡ kind ∷ [] →
     fault_at (suc number + 0) 0 (first_kind (misplaced id)) ≡ Some (record { kind = kind; block = number + 1; at = 0 })
 number-first number kind id is =
     ap (λ ks. fault_at (suc number + 0) 0 (first_kind ks)) is

@@ -204,6 +204,18 @@ pub block-room : (parts : List Part) (i blocks : ℕ) (part : Part) (b : BlockTr
 block-room parts i blocks part b within is form counted =
     omega (arith, count-left parts i, ap block_count (left-block parts i part b within is form), counted)
 
+-- a block among the parts is one
+pub room-first : (parts : List Part) (i : ℕ) (part : Part) (b : BlockTree) → i < length parts → part ≡ get_or parts i part → part ≡ Block b →
+    1 ≤ block_count (parts_contents parts)
+room-first parts i part b within is form =
+    omega (arith, block-room parts i (block_count (past parts i)) part b within is form refl)
+
+-- the records that have come, with one more
+pub past-entries : (parts : List Part) (i : ℕ) (part : Part) (e : held.Entry) → i < length parts → part ≡ get_or parts i part → part ≡ Entry e →
+    entries_in (past parts (i + 1)) ≡ entries_in (past parts i) ++ entry e.code e.values ∷ []
+past-entries parts i part e within is form =
+    ap entries_in (entry_more parts i part e within is form) ∙ entries-append (past parts i) (a_record e.code e.values no_more)
+
 -- facts of the records that have come, with one more
 pub has-code-append : (code : ℕ) (before : List EntryForm) (e : EntryForm) → has_code code (before ++ e ∷ []) ≡ (has_code code before || (code_of e == code))
 has-code-append code [] e = or_false (code_of e == code) where

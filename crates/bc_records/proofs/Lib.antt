@@ -33,3 +33,4 @@ pub mod NoRecordFault
 pub mod OneRecordFault
 pub mod FaultWalk
 pub mod FaultTables
+pub mod FaultSymbols

@@ -34,3 +34,5 @@ pub mod OneRecordFault
 pub mod FaultWalk
 pub mod FaultTables
 pub mod FaultSymbols
+pub mod FaultCounts
+pub mod FaultNumbers

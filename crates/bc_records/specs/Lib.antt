@@ -18,3 +18,5 @@ pub mod FaultSearch
 pub mod HeldEntries
 pub mod KnownTables
 pub mod FlatTables
+pub mod FaultCounts
+pub mod BodyNumbers

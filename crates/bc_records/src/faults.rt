@@ -1,9 +1,11 @@
 //! Where a block list is at fault, as far as records are read.
 
 mod fault;
+mod numbers;
 mod operands;
 mod body;
 mod constants;
+mod counts;
 mod flat;
 mod known;
 mod metadata;

@@ -166,11 +166,13 @@ module _ (table : Table) (block first : ℕ) (parts : List Part) (i at blocks : 
       ap entries_in past-block
       ∙ (entries-append (past parts i) (a_block b.id (parts_contents b.parts) no_more) ∙ more_none (entries_in (past parts i)))
 
-  pub walked-block : head_fault table (first + blocks) (past parts i) b.id ≡ None →
-      inside_fault table (first + blocks) (past parts i) b ≡ None →
+  pub walked-block : or_else (head_fault table (first + blocks) (past parts i) b.id) (inside_fault table (first + blocks) (past parts i) b) ≡ None →
       Walked table block first parts (i + 1) at (blocks + suc (block_count (parts_contents b.parts)))
-  walked-block free inside = record {
-    same = at-block ∙ (or_else-none _ _ free ∙ or_else-none _ _ inside);
+  walked-block free = record {
+    same = at-block
+        ∙ (sym (or_else-or_else (head_fault table (first + blocks) (past parts i) b.id) (inside_fault table (first + blocks) (past parts i) b)
+        (rest_fault table block first (past parts (i + 1)) (left parts (i + 1))))
+        ∙ or_else-none _ _ free);
     records = ap length past-block-entries ∙ w.records;
     counted = ap block_count past-block
         ∙ (count-append (past parts i) (a_block b.id (parts_contents b.parts) no_more) ∙ omega (arith, w.counted));
@@ -180,10 +182,13 @@ module _ (table : Table) (block first : ℕ) (parts : List Part) (i at blocks : 
       whole_fault table block first (parts_contents parts) ≡ Some f
   found-head f is_fault = at-block ∙ or_else-some _ _ f is_fault
 
-  pub found-inside : (f : Fault) → head_fault table (first + blocks) (past parts i) b.id ≡ None →
-      inside_fault table (first + blocks) (past parts i) b ≡ Some f →
+  pub found-block : (f : Fault) → or_else (head_fault table (first + blocks) (past parts i) b.id) (inside_fault table (first + blocks) (past parts i) b) ≡ Some f →
       whole_fault table block first (parts_contents parts) ≡ Some f
-  found-inside f free is_fault = at-block ∙ (or_else-none _ _ free ∙ or_else-some _ _ f is_fault)
+  found-block f is_fault =
+      at-block
+      ∙ (sym (or_else-or_else (head_fault table (first + blocks) (past parts i) b.id) (inside_fault table (first + blocks) (past parts i) b)
+      (rest_fault table block first (past parts (i + 1)) (left parts (i + 1))))
+      ∙ or_else-some _ _ f is_fault)
 
 -- the parts put together
 pub contents-append : (xs ys : List Part) → parts_contents (xs ++ ys) ≡ append (parts_contents xs) (parts_contents ys)

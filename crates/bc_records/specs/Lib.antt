@@ -20,3 +20,4 @@ pub mod KnownTables
 pub mod FlatTables
 pub mod FaultCounts
 pub mod BodyNumbers
+pub mod BodyPlaces

@@ -9,8 +9,7 @@ ghost use Rattle.bc_records.specs.HeldEntries.{signature_form};
 ghost use Rattle.bc_records.specs.KnownTables.{known_by};
 ghost use Rattle.bc_records.specs.RecordKinds.{Numbers, body_kinds, call_counts, call_names, called_signature, called_type, entry_has_value, has_code, is_past, names_operand, next_after, function_type_at, operand};
 
-use crate::codes::{DECLAREBLOCKS, INST_CALL, INST_RET};
-use crate::faults::fault::{COUNT, NUMBER, PLACE, UNREAD, unless, when};
+use crate::codes::INST_CALL;
 use crate::faults::known::{are_same_type, function_type, is_value_type, signature};
 use crate::faults::operands::{fits_word, operand_at};
 use crate::faults::tables::Tables;
@@ -74,7 +73,7 @@ pub fn has_value(tables: &Tables, next: u64, code: u32, operands: &[u64]) -> boo
 }
 
 /// Whether a CALL has as many operands as its function needs.
-fn call_count_fits(tables: &Tables, next: u64, operands: &[u64]) -> bool
+pub fn call_count_fits(tables: &Tables, next: u64, operands: &[u64]) -> bool
     requires { next < 2 ^ 63 }
     ensures { result ≡ call_counts (known_by tables.now) next operands.now }
 {
@@ -97,7 +96,7 @@ fn call_count_fits(tables: &Tables, next: u64, operands: &[u64]) -> bool
 }
 
 /// Whether the operands of a CALL name a function, its type and values.
-fn call_names_fit(tables: &Tables, values: u64, next: u64, operands: &[u64]) -> bool
+pub fn call_names_fit(tables: &Tables, values: u64, next: u64, operands: &[u64]) -> bool
     requires { next < 2 ^ 63 }
     ensures { result ≡ call_names (known_by tables.now) values next operands.now }
 {
@@ -109,40 +108,5 @@ fn call_names_fit(tables: &Tables, values: u64, next: u64, operands: &[u64]) -> 
                 && are_same_type(tables, operand_at(operands, 2), ty)
                 && all_name_values(values, next, behind_four(operands))
         }
-    }
-}
-
-/// Where the records of a body stand.
-#[derive(Clone, Copy, Drop)]
-pub struct Place {
-    /// The number of the next value.
-    pub next: u64,
-    /// Whether the number of basic blocks was said.
-    pub declared: bool,
-    /// Whether all basic blocks have ended.
-    pub past: bool,
-}
-
-/// The least kind of a record in a body with so many values.
-pub fn body_kind(
-    tables: &Tables,
-    values: u64,
-    place: Place,
-    code: u32,
-    operands: &[u64],
-) -> Option<u8>
-    requires { place.next < 2 ^ 63 }
-    ensures { (numbers : Numbers) (before : List Entry) → next_after (known_by tables.now) numbers.first before ≡ place.next → numbers.values ≡ values → has_code 1 before ≡ place.declared → is_past numbers.blocks before ≡ place.past → result ≡ first_kind (body_kinds (known_by tables.now) numbers before (entry code operands.now)) }
-{
-    match code {
-        DECLAREBLOCKS => unless(operands.len() == 1, COUNT)
-            .or(unless(fits_word(operand_at(operands, 0)), NUMBER))
-            .or(when(place.declared, PLACE)),
-        INST_RET => unless(operands.is_empty(), COUNT).or(when(place.past, PLACE)),
-        INST_CALL => unless(call_count_fits(tables, place.next, operands), COUNT)
-            .or(unless(call_names_fit(tables, values, place.next, operands), NUMBER))
-            .or(when(place.past, PLACE))
-            .or(unless(operand_at(operands, 1) / 32768 % 2 == 1, UNREAD)),
-        _ => Some(UNREAD),
     }
 }

@@ -12,15 +12,15 @@ use Rattle.bc_records.specs.RecordKinds.{code_of, operands_of, operand, names_va
 abbrev pub names_here : ℕ → Entry → Bool
 names_here value e = (code_of e == 1) && (nat_lt 0 (length (operands_of e)) && (operand (operands_of e) 0 == value))
 
-or-assoc : (a b c : Bool) → (a || (b || c)) ≡ ((a || b) || c)
+pub or-assoc : (a b c : Bool) → (a || (b || c)) ≡ ((a || b) || c)
 or-assoc true b c = refl
 or-assoc false b c = refl
 
-or-false : (a : Bool) → (a || false) ≡ a
+pub or-false : (a : Bool) → (a || false) ≡ a
 or-false true = refl
 or-false false = refl
 
-or-true : (a : Bool) → (a || true) ≡ true
+pub or-true : (a : Bool) → (a || true) ≡ true
 or-true true = refl
 or-true false = refl
 

@@ -36,3 +36,4 @@ pub mod FaultTables
 pub mod FaultSymbols
 pub mod FaultCounts
 pub mod FaultNumbers
+pub mod FaultSurvey

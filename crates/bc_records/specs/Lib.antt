@@ -21,3 +21,4 @@ pub mod FlatTables
 pub mod FaultCounts
 pub mod BodyNumbers
 pub mod BodyPlaces
+pub mod ModuleProgress

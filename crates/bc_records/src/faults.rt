@@ -12,6 +12,7 @@ mod known;
 mod metadata;
 mod module_block;
 mod place;
+mod progress;
 mod survey;
 mod symbols;
 mod tables;

@@ -1,39 +1,117 @@
-//! The faults of the block MODULE.
+//! A walk over the block MODULE.
 
-ghost use Rattle.std.specs.Prelude.{◌≡◌, List};
-ghost use Rattle.bc_records.specs.Entries.{Entry, entry};
-ghost use Rattle.bc_records.specs.FaultSearch.{first_kind};
+ghost use Rattle.std.specs.Prelude.{◌≡◌, suc, ◌+◌, ◌<◌, ◌^◌, ◌==◌, if◌then◌else◌, List, [], ◌++◌, OnOk, get_or, length, map};
+ghost use Rattle.bc_stream.specs.Blocks.{Contents, parts_contents};
+ghost use Rattle.bc_records.specs.Codes.{symbols_block};
+ghost use Rattle.bc_records.specs.Entries.{Entry, block_count, entries_in, entry as an_entry};
+ghost use Rattle.bc_records.specs.FaultSearch.{MarksNamed, Tells, fault_at, first_fault, first_kind, or_else};
+ghost use Rattle.bc_records.specs.FaultSites.{sites};
+ghost use Rattle.bc_records.specs.HeldEntries.{operands_form};
 ghost use Rattle.bc_records.specs.KnownTables.{known_by};
-ghost use Rattle.bc_records.specs.RecordKinds.{has_code, module_kinds};
+ghost use Rattle.bc_records.specs.ModuleProgress.{HasCome, MarksBefore, behind_code, behind_id};
+ghost use Rattle.bc_records.specs.RecordFaults.{body_count, is_complete, module_heads, module_inside, module_table};
+ghost use Rattle.bc_records.specs.RecordKinds.{Known, known_of, module_kinds, with_bodies};
 
-use crate::codes::{DATALAYOUT, FUNCTION, TRIPLE, VERSION};
-use crate::faults::fault::{CHARACTER, COUNT, NUMBER, PLACE, UNREAD, unless, when};
+use crate::codes::{
+    CONSTANTS_BLOCK, DATALAYOUT, FUNCTION, FUNCTION_BLOCK, METADATA_BLOCK, SYMBOLS_BLOCK, TRIPLE,
+    TYPES_BLOCK, VERSION,
+};
+use crate::faults::body_walk::body_block;
+use crate::faults::counts::{after_block, parts_of};
+use crate::faults::fault::{
+    CHARACTER, COUNT, MISSING, NUMBER, PLACE, Stop, UNREAD, free_at, unless, when,
+};
+use crate::faults::flat::{Flat, flat_block, misplaced_kind};
 use crate::faults::known::is_type_of_function;
 use crate::faults::operands::{are_characters, operand_at};
+use crate::faults::progress::Progress;
+use crate::faults::survey::{body_list, tables_of};
+use crate::faults::symbols::symbols_block as check_symbols;
 use crate::faults::tables::Tables;
-
-/// Which records of MODULE have come.
-#[derive(Clone, Copy, Drop)]
-pub struct Seen {
-    pub version: bool,
-    pub triple: bool,
-    pub layout: bool,
-}
+use bc_stream::{BlockTree, Part};
+use std::alloc::Global;
 
 /// The least kind of a record, where these have come before.
-fn module_kind(tables: &Tables, seen: Seen, code: u32, operands: &[u64]) -> Option<u8>
-    ensures { (before : List Entry) → has_code 1 before ≡ seen.version → has_code 2 before ≡ seen.triple → has_code 3 before ≡ seen.layout → result ≡ first_kind (module_kinds (known_by tables.now) before (entry code operands.now)) }
+fn module_kind(tables: &Tables, progress: Progress, code: u32, operands: &[u64]) -> Option<u8>
+    ensures { (before : Contents) → HasCome before progress → result ≡ first_kind (module_kinds (known_by tables.now) (entries_in before) (an_entry code operands.now)) }
 {
     match code {
         VERSION => unless(operands.len() == 1, COUNT)
             .or(unless(operand_at(operands, 0) == 1, NUMBER))
-            .or(when(seen.version, PLACE)),
-        TRIPLE => when(seen.triple, PLACE).or(unless(are_characters(operands), CHARACTER)),
-        DATALAYOUT => when(seen.layout, PLACE).or(unless(are_characters(operands), CHARACTER)),
+            .or(when(progress.version, PLACE)),
+        TRIPLE => when(progress.triple, PLACE).or(unless(are_characters(operands), CHARACTER)),
+        DATALAYOUT => {
+            when(progress.layout, PLACE).or(unless(are_characters(operands), CHARACTER))
+        }
         FUNCTION => unless(operands.len() >= 4, COUNT).or(unless(
             is_type_of_function(tables, operand_at(operands, 0)) && operand_at(operands, 2) <= 1,
             NUMBER,
         )),
         _ => Some(UNREAD),
+    }
+}
+
+/// The least kind of the head of a block in a module with so many bodies.
+fn head_kind(progress: Progress, bodies: usize, id: u32) -> Option<u8>
+    ensures { (known : Known) (before : Contents) → HasCome before progress → body_count known ≡ bodies → result ≡ first_kind (module_heads known before id) }
+{
+    match id {
+        CONSTANTS_BLOCK | SYMBOLS_BLOCK | METADATA_BLOCK => None,
+        TYPES_BLOCK => when(progress.types, PLACE),
+        FUNCTION_BLOCK => unless(progress.bodies < bodies, PLACE),
+        id => Some(misplaced_kind(id)),
+    }
+}
+
+/// What has come behind a record more.
+fn behind_record(progress: Progress, code: u32) -> Progress
+    ensures { result ≡ behind_code progress code }
+{
+    Progress {
+        version: progress.version || code == VERSION,
+        triple: progress.triple || code == TRIPLE,
+        layout: progress.layout || code == DATALAYOUT,
+        types: progress.types,
+        bodies: progress.bodies,
+    }
+}
+
+/// What has come behind a block more.
+fn behind_block(progress: Progress, id: u32) -> Progress
+    requires { progress.bodies < 2 ^ 63 }
+    ensures { result ≡ behind_id progress id }
+{
+    let bodies = if id == FUNCTION_BLOCK {
+        progress.bodies + 1
+    } else {
+        progress.bodies
+    };
+    Progress {
+        version: progress.version,
+        triple: progress.triple,
+        layout: progress.layout,
+        types: progress.types || id == TYPES_BLOCK,
+        bodies,
+    }
+}
+
+/// Whether all that a module with so many bodies needs has come.
+fn has_all(progress: Progress, bodies: usize) -> bool
+    ensures { (known : Known) (block : Contents) → HasCome block progress → body_count known ≡ bodies → result ≡ is_complete known block }
+{
+    progress.version
+        && progress.triple
+        && progress.layout
+        && progress.types
+        && bodies <= progress.bodies
+}
+
+/// The operands of the function that a body belongs to, or none where there is no such function.
+fn function_of<'a>(bodies: &[&'a [u64]], place: usize) -> &'a [u64]
+    ensures { result.now ≡ get_or (map operands_form bodies.now) place [] }
+{
+    match bodies.get(place) {
+        None => &[],
+        Some(operands) => *operands,
     }
 }

@@ -7,7 +7,7 @@ use Rattle.bc_records.specs.declared.faults.flat.Flat.TheVariants.{Types, Consta
 use Rattle.bc_records.specs.FaultSearch.{fault_at, first_fault, first_kind, or_else}
 use Rattle.bc_records.specs.FlatTables.{flat_table_of}
 use Rattle.bc_records.specs.RecordKinds.{Known}
-use Rattle.bc_records.specs.RecordFaults.{misplaced, body_heads, body_inside}
+use Rattle.bc_records.specs.RecordFaults.{misplaced, body_heads, body_inside, module_heads, module_inside}
 use Rattle.bc_records.proofs.FaultWalk.{head_fault}
 
 pub number-first : (number kind : ℕ) (id : ℕ) → misplaced id ≡ kind ∷ [] →
@@ -26,3 +26,7 @@ flat-head known Metadata before id number kind is = number-first number kind id 
 -- the fault of a block in a body
 abbrev pub part_fault : Known → (number id : ℕ) → Contents → Option Fault
 part_fault known number id inner = or_else (fault_at number 0 (first_kind (body_heads id))) (first_fault (body_inside known id number inner))
+
+-- the fault of a block in MODULE
+abbrev pub module_part_fault : Known → (before : Contents) → (number id : ℕ) → Contents → Option Fault
+module_part_fault known before number id inner = or_else (fault_at number 0 (first_kind (module_heads known before id))) (first_fault (module_inside known before id number inner))

@@ -37,3 +37,4 @@ pub mod FaultSymbols
 pub mod FaultCounts
 pub mod FaultNumbers
 pub mod FaultSurvey
+pub mod FaultModules

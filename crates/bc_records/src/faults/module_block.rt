@@ -1,7 +1,7 @@
 //! A walk over the block MODULE.
 
-ghost use Rattle.std.specs.Prelude.{◌≡◌, suc, ◌+◌, ◌<◌, ◌^◌, ◌==◌, if◌then◌else◌, List, [], ◌++◌, OnOk, get_or, length, map};
-ghost use Rattle.bc_stream.specs.Blocks.{Contents, parts_contents};
+ghost use Rattle.std.specs.Prelude.{◌≡◌, suc, ◌+◌, ◌<◌, ◌^◌, ◌==◌, if◌then◌else◌, List, [], ◌++◌, IfOk, OnOk, get_or, length, map};
+ghost use Rattle.bc_stream.specs.Blocks.{Contents, a_block, append, no_more, parts_contents};
 ghost use Rattle.bc_records.specs.Codes.{symbols_block};
 ghost use Rattle.bc_records.specs.Entries.{Entry, block_count, entries_in, entry as an_entry};
 ghost use Rattle.bc_records.specs.FaultSearch.{MarksNamed, Tells, fault_at, first_fault, first_kind, or_else};
@@ -9,7 +9,7 @@ ghost use Rattle.bc_records.specs.FaultSites.{sites};
 ghost use Rattle.bc_records.specs.HeldEntries.{operands_form};
 ghost use Rattle.bc_records.specs.KnownTables.{known_by};
 ghost use Rattle.bc_records.specs.ModuleProgress.{HasCome, MarksBefore, behind_code, behind_id};
-ghost use Rattle.bc_records.specs.RecordFaults.{body_count, is_complete, module_heads, module_inside, module_table};
+ghost use Rattle.bc_records.specs.RecordFaults.{bodies_before, body_count, is_complete, module_heads, module_inside, module_table};
 ghost use Rattle.bc_records.specs.RecordKinds.{Known, known_of, module_kinds, with_bodies};
 
 use crate::codes::{
@@ -28,6 +28,7 @@ use crate::faults::progress::Progress;
 use crate::faults::survey::{body_list, tables_of};
 use crate::faults::symbols::symbols_block as check_symbols;
 use crate::faults::tables::Tables;
+use base_core::NoMemory;
 use bc_stream::{BlockTree, Part};
 use std::alloc::Global;
 
@@ -114,4 +115,126 @@ fn function_of<'a>(bodies: &[&'a [u64]], place: usize) -> &'a [u64]
         None => &[],
         Some(operands) => *operands,
     }
+}
+
+/// Goes on where no place in a block of MODULE has a fault, with the functions marked that it names.
+fn inside_block(
+    tables: &Tables,
+    bodies: &[&[u64]],
+    marks: &mut [bool],
+    place: usize,
+    number: u32,
+    inner: &BlockTree,
+) -> Result<(), Stop>
+    requires room { suc (number + block_count (parts_contents inner.now.parts)) < 2 ^ 32 }
+    requires bodies { map operands_form bodies.now ≡ with_bodies (known_by tables.now).functions }
+    requires marks { length marks.old ≡ length (known_by tables.now).functions }
+    ensures told { (before : Contents) → bodies_before before ≡ place → MarksBefore before marks.old → Tells result (first_fault (module_inside (known_by tables.now) before inner.now.id number (parts_contents inner.now.parts))) }
+    ensures marked { OnOk result ((before : Contents) → MarksBefore before marks.old → MarksBefore (append before (a_block inner.now.id (parts_contents inner.now.parts) no_more)) marks.new) }
+{
+    let parts = parts_of(&inner.parts)?;
+    match inner.id {
+        TYPES_BLOCK => flat_block(Flat::Types, tables, number, parts),
+        CONSTANTS_BLOCK => flat_block(Flat::Constants, tables, number, parts),
+        METADATA_BLOCK => flat_block(Flat::Metadata, tables, number, parts),
+        SYMBOLS_BLOCK => check_symbols(marks, number, parts),
+        FUNCTION_BLOCK => body_block(tables, function_of(bodies, place), number, parts),
+        _ => Ok(()),
+    }
+}
+
+/// Goes on where neither the head of a block of MODULE nor a place in it has a fault, with the functions marked that
+/// it names.
+fn module_part(
+    tables: &Tables,
+    bodies: &[&[u64]],
+    marks: &mut [bool],
+    progress: Progress,
+    number: u32,
+    inner: &BlockTree,
+) -> Result<(), Stop>
+    requires room { suc (number + block_count (parts_contents inner.now.parts)) < 2 ^ 32 }
+    requires bodies { map operands_form bodies.now ≡ with_bodies (known_by tables.now).functions }
+    requires marks { length marks.old ≡ length (known_by tables.now).functions }
+    ensures told { (before : Contents) → HasCome before progress → MarksBefore before marks.old → Tells result (or_else (fault_at number 0 (first_kind (module_heads (known_by tables.now) before inner.now.id))) (first_fault (module_inside (known_by tables.now) before inner.now.id number (parts_contents inner.now.parts)))) }
+    ensures marked { OnOk result ((before : Contents) → MarksBefore before marks.old → MarksBefore (append before (a_block inner.now.id (parts_contents inner.now.parts) no_more)) marks.new) }
+{
+    free_at(head_kind(progress, bodies.len(), inner.id), number, 0)?;
+    inside_block(tables, bodies, marks, progress.bodies, number, inner)
+}
+
+/// Goes on where no place of MODULE has a fault.
+fn module_parts(
+    tables: &Tables,
+    bodies: &[&[u64]],
+    marks: &mut [bool],
+    number: u32,
+    parts: &[Part],
+) -> Result<(), Stop>
+    requires room { suc (number + block_count (parts_contents parts.now)) < 2 ^ 32 }
+    requires records { length parts.now < 2 ^ 31 }
+    requires bodies { map operands_form bodies.now ≡ with_bodies (known_by tables.now).functions }
+    requires marks { length marks.old ≡ length (known_by tables.now).functions }
+    requires marked { MarksNamed marks.old [] }
+    ensures { Tells result (first_fault (sites (module_table (known_by tables.now)) number (parts_contents parts.now))) }
+{
+    let mut progress = Progress {
+        version: false,
+        triple: false,
+        layout: false,
+        types: false,
+        bodies: 0,
+    };
+    let mut at: u32 = 0;
+    let mut next = number + 1;
+    for part in parts {
+        match part {
+            Part::Entry(entry) => {
+                let kind = module_kind(tables, progress, entry.code, entry.values.as_slice());
+                free_at(kind, number, at)?;
+                progress = behind_record(progress, entry.code);
+                at += 1;
+            }
+            Part::Block(inner) => {
+                module_part(tables, bodies, marks, progress, next, inner)?;
+                progress = behind_block(progress, inner.id);
+                next = after_block(next, inner);
+            }
+        }
+    }
+    free_at(
+        unless(has_all(progress, bodies.len()), MISSING),
+        number,
+        at,
+    )
+}
+
+/// So many marks, none of which is set.
+///
+/// # Errors
+/// `NoMemory` where memory is refused.
+fn no_marks(alloc: Global, count: usize) -> Result<Vec<bool>, NoMemory>
+    ensures marked { IfOk result (λ marks. MarksNamed marks.items []) }
+    ensures count { IfOk result (λ marks. length marks.items ≡ count) }
+{
+    let marks = vec![in alloc; false; count]?;
+    Ok(marks)
+}
+
+/// Goes on where no place of the block MODULE that has this number has a fault.
+pub fn module_faults(alloc: Global, number: u32, parts: &[Part]) -> Result<(), Stop>
+    requires room { suc (number + block_count (parts_contents parts.now)) < 2 ^ 32 }
+    requires records { length parts.now < 2 ^ 31 }
+    ensures { Tells result (first_fault (sites (module_table (known_of (parts_contents parts.now))) number (parts_contents parts.now))) }
+{
+    let tables = tables_of(alloc, parts)?;
+    let bodies = body_list(alloc, tables.functions.as_slice())?;
+    let mut marks = no_marks(alloc, tables.functions.len())?;
+    module_parts(
+        &tables,
+        bodies.as_slice(),
+        marks.as_mut_slice(),
+        number,
+        parts,
+    )
 }

@@ -65,7 +65,7 @@ length-more [] x false = refl
 length-more (y ∷ xs) x true = ap suc (length-more xs x true)
 length-more (y ∷ xs) x false = ap suc (length-more xs x false)
 
-positive : (n : ℕ) (b : Bool) → nat_lt 0 (if b then suc n else n) ≡ (nat_lt 0 n || b)
+pub positive : (n : ℕ) (b : Bool) → nat_lt 0 (if b then suc n else n) ≡ (nat_lt 0 n || b)
 positive n true = lt-ltb 0 (suc n) (omega arith) ∙ sym (or-true (nat_lt 0 n)) where
   or-true : (a : Bool) → (a || true) ≡ true
   or-true true = refl
@@ -75,6 +75,10 @@ positive n false = sym (or-false (nat_lt 0 n)) where
   or-false true = refl
   or-false false = refl
 
+pub counted-block : (wanted : ℕ) (before : Contents) (id : ℕ) (inner : Contents) →
+    length (blocks_in wanted (append before (a_block id inner no_more))) ≡ (if id == wanted then suc (length (blocks_in wanted before)) else length (blocks_in wanted before))
+counted-block wanted before id inner = ap length (blocks-one wanted before id inner) ∙ length-more (blocks_in wanted before) inner (id == wanted)
+
 -- what has come behind a block
 pub come-block : (before : Contents) (progress : Progress) (id : ℕ) (inner : Contents) → HasCome before progress →
     HasCome (append before (a_block id inner no_more)) (behind_id progress id)
@@ -82,14 +86,11 @@ come-block before progress id inner come = record {
   version = ap (has_code 1) same ∙ come.version;
   triple = ap (has_code 2) same ∙ come.triple;
   layout = ap (has_code 3) same ∙ come.layout;
-  types = ap (nat_lt 0) (counted types_block) ∙ (positive (length (blocks_in types_block before)) (id == types_block) ∙ ap (λ b. b || (id == types_block)) come.types);
-  bodies = counted function_block ∙ ap (λ n. if id == function_block then suc n else n) come.bodies;
+  types = ap (nat_lt 0) (counted-block types_block before id inner) ∙ (positive (length (blocks_in types_block before)) (id == types_block) ∙ ap (λ b. b || (id == types_block)) come.types);
+  bodies = counted-block function_block before id inner ∙ ap (λ n. if id == function_block then suc n else n) come.bodies;
 } where
   same : entries_in (append before (a_block id inner no_more)) ≡ entries_in before
   same = entries-append before (a_block id inner no_more) ∙ more_none (entries_in before)
-
-  counted : (wanted : ℕ) → length (blocks_in wanted (append before (a_block id inner no_more))) ≡ (if id == wanted then suc (length (blocks_in wanted before)) else length (blocks_in wanted before))
-  counted wanted = ap length (blocks-one wanted before id inner) ∙ length-more (blocks_in wanted before) inner (id == wanted)
 
 -- what holds in any case holds where a walk goes on
 pub on-ok : {P : Type 0} (result : Result (Unit {0}) Stop) → P → OnOk result P

@@ -38,3 +38,4 @@ pub mod FaultCounts
 pub mod FaultNumbers
 pub mod FaultSurvey
 pub mod FaultModules
+pub mod FaultOuter

@@ -39,3 +39,4 @@ pub mod FaultNumbers
 pub mod FaultSurvey
 pub mod FaultModules
 pub mod FaultOuter
+pub mod FaultOrder

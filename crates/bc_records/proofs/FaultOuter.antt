@@ -76,14 +76,14 @@ module _ (blocks : List BlockTree) (i : ℕ) (b : BlockTree) (within : i < lengt
       (sites_after outer_table 0 0 (append (outer_past blocks i) (a_block b.id (parts_contents b.parts) no_more)) (outer_left blocks (i + 1)))
       ∙ ap (λ c. or_else inside (outer_rest c (outer_left blocks (i + 1)))) (sym outer-past))
       ∙ sym (or_else-or_else head inside (outer_rest (outer_past blocks (i + 1)) (outer_left blocks (i + 1))))))) where
-    number : ℕ
-    number = block_count (outer_past blocks i)
+        number : ℕ
+        number = block_count (outer_past blocks i)
 
-    head : Option Fault
-    head = fault_at number 0 (first_kind (outer_heads (outer_past blocks i) b.id))
+        head : Option Fault
+        head = fault_at number 0 (first_kind (outer_heads (outer_past blocks i) b.id))
 
-    inside : Option Fault
-    inside = first_fault (outer_inside b.id number (parts_contents b.parts))
+        inside : Option Fault
+        inside = first_fault (outer_inside b.id number (parts_contents b.parts))
 
   pub outer-more : OuterWalked blocks i → outer_fault (outer_past blocks i) (block_count (outer_past blocks i)) b.id (parts_contents b.parts) ≡ None →
       OuterWalked blocks (i + 1)

@@ -22,9 +22,9 @@ module _ {X Y : Type 0} (test : X → Bool) (pick : X → Y) (picked : List X �
       ∙ (ap (λ ys. if test z then pick z ∷ ys else ys) (picked-append xs x)
       ∙ (front (test z) (picked xs) (if test x then pick x ∷ [] else [])
       ∙ ap (λ ys. ys ++ (if test x then pick x ∷ [] else [])) (sym (some z xs)))) where
-    front : (b : Bool) (ys zs : List Y) → (if b then pick z ∷ (ys ++ zs) else (ys ++ zs)) ≡ (if b then pick z ∷ ys else ys) ++ zs
-    front true ys zs = refl
-    front false ys zs = refl
+        front : (b : Bool) (ys zs : List Y) → (if b then pick z ∷ (ys ++ zs) else (ys ++ zs)) ≡ (if b then pick z ∷ ys else ys) ++ zs
+        front true ys zs = refl
+        front false ys zs = refl
 
   pub picked-one : (xs : List X) (x : X) → test x ≡ true → picked (xs ++ x ∷ []) ≡ picked xs ++ pick x ∷ []
   picked-one xs x is = picked-append xs x ∙ ap (λ b. picked xs ++ (if b then pick x ∷ [] else [])) is

@@ -229,9 +229,9 @@ has-code-append code [] e = or_false (code_of e == code) where
   or_false false = refl
 has-code-append code (x ∷ before) e =
     ap (λ b. (code_of x == code) || b) (has-code-append code before e) ∙ sym (or_assoc (code_of x == code) (has_code code before) (code_of e == code)) where
-  or_assoc : (a b c : Bool) → ((a || b) || c) ≡ (a || (b || c))
-  or_assoc true b c = refl
-  or_assoc false b c = refl
+      or_assoc : (a b c : Bool) → ((a || b) || c) ≡ (a || (b || c))
+      or_assoc true b c = refl
+      or_assoc false b c = refl
 
 pub last-code-append : (code : ℕ) (before : List EntryForm) (e : EntryForm) → last_has_code code (before ++ e ∷ []) ≡ (code_of e == code)
 last-code-append code [] e = refl
@@ -247,9 +247,9 @@ at-end table block first parts i at blocks all w =
     ∙ (or_else-last (fault_at block (length (entries_in (past parts i))) (first_kind (table.ends (past parts i))))
     ∙ (ap (λ n. fault_at block n (first_kind (table.ends (past parts i)))) w.records
     ∙ ap (λ c. fault_at block at (first_kind (table.ends (parts_contents c)))) (take_all i parts all)))) where
-  or_else-last : (a : Option Fault) → or_else a None ≡ a
-  or_else-last None = refl
-  or_else-last (Some f) = refl
+      or_else-last : (a : Option Fault) → or_else a None ≡ a
+      or_else-last None = refl
+      or_else-last (Some f) = refl
 
 -- what a part tells, of the whole
 pub stop-same : (stop : Stop) (part whole : Option Fault) → ((f : Fault) → part ≡ Some f → whole ≡ Some f) → IsStop stop part → IsStop stop whole

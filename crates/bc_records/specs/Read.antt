@@ -115,8 +115,8 @@ read_instructions m next (entry code operands ∷ rest) =
     if code == 1 then read_instructions m next rest
     else if code == 10 then Ret ∷ read_instructions m next rest
     else (
-      let call : Inst = Call (absolute next (word (operand operands 3))) (map (absolute next) (words (drop 4 operands))) in
-      call ∷ read_instructions m (next_value m next call) rest
+    let call : Inst = Call (absolute next (word (operand operands 3))) (map (absolute next) (words (drop 4 operands))) in
+    call ∷ read_instructions m (next_value m next call) rest
     )
 
 -- the number of blocks that is declared first

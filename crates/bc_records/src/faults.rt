@@ -23,12 +23,13 @@ mod progress;
 mod survey;
 mod symbols;
 mod tables;
+#[cfg(test)]
+mod tests;
 mod types;
-
-pub use fault::Fault;
 
 use base_core::NoMemory;
 use bc_stream::BlockList;
+pub use fault::Fault;
 use fault::Stop;
 use outermost::outer_faults;
 use std::alloc::Global;

@@ -28,9 +28,7 @@ fn all_name_values(values: u64, next: u64, arguments: &[u64]) -> bool
     requires { next < 2 ^ 63 }
     ensures { result ≡ list_all (names_operand values next) arguments.now }
 {
-    arguments
-        .iter()
-        .all(|argument| fits_word(*argument) && named_value(next, *argument) < values)
+    arguments.iter().all(|argument| fits_word(*argument) && named_value(next, *argument) < values)
 }
 
 /// The operands behind the first four, or none where there are fewer.
@@ -82,9 +80,7 @@ pub fn call_count_fits(tables: &Tables, next: u64, operands: &[u64]) -> bool
         Some(ty) => signature(tables, ty),
     };
     match called {
-        Some((_, params)) => {
-            operands.len() >= 4 && behind_four(operands).len() == params.len()
-        }
+        Some((_, params)) => { operands.len() >= 4 && behind_four(operands).len() == params.len() }
         None => {
             if next <= named_value(next, operand_at(operands, 3)) {
                 operands.len() >= 5

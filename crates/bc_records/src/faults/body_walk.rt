@@ -16,9 +16,9 @@ use crate::codes::{
 use crate::faults::body::{call_count_fits, call_names_fit, has_value};
 use crate::faults::counts::{after_block, parts_of};
 use crate::faults::fault::{
-    COUNT, Fault, MISSING, NUMBER, PLACE, Stop, UNREAD, free_at, unless, when,
+    COUNT, Fault, MISSING, NUMBER, PLACE, Stop, UNREAD, free_at, misplaced_kind, unless, when,
 };
-use crate::faults::flat::{Flat, flat_block, misplaced_kind};
+use crate::faults::flat::{Flat, flat_block};
 use crate::faults::numbers::body_numbers;
 use crate::faults::operands::{fits_word, operand_at};
 use crate::faults::place::Place;
@@ -36,13 +36,7 @@ fn have_ended(place: Place) -> bool
 }
 
 /// The least kind of a record in a body with so many values.
-fn body_kind(
-    tables: &Tables,
-    values: u64,
-    place: Place,
-    code: u32,
-    operands: &[u64],
-) -> Option<u8>
+fn body_kind(tables: &Tables, values: u64, place: Place, code: u32, operands: &[u64]) -> Option<u8>
     requires { place.next < 2 ^ 63 }
     ensures { (numbers : Numbers) (before : List Entry) → IsBehind (known_by tables.now) numbers before place → numbers.values ≡ values → result ≡ first_kind (body_kinds (known_by tables.now) numbers before (an_entry code operands.now)) }
 {
@@ -52,10 +46,7 @@ fn body_kind(
             .or(when(place.declared, PLACE)),
         INST_RET => unless(operands.is_empty(), COUNT).or(when(have_ended(place), PLACE)),
         INST_CALL => unless(call_count_fits(tables, place.next, operands), COUNT)
-            .or(unless(
-                call_names_fit(tables, values, place.next, operands),
-                NUMBER,
-            ))
+            .or(unless(call_names_fit(tables, values, place.next, operands), NUMBER))
             .or(when(have_ended(place), PLACE))
             .or(unless(operand_at(operands, 1) / 32768 % 2 == 1, UNREAD)),
         _ => Some(UNREAD),

@@ -14,8 +14,10 @@ pub fn constant_kind(types: u64, typed: bool, code: u32, operands: &[u64]) -> Op
     ensures { (before : List Entry) → has_code 1 before ≡ typed → result ≡ first_kind (constant_kinds types before (entry code operands.now)) }
 {
     match code {
-        CONSTANT_SETTYPE => unless(operands.len() == 1, COUNT)
-            .or(unless(operand_at(operands, 0) < types, NUMBER)),
+        CONSTANT_SETTYPE => unless(operands.len() == 1, COUNT).or(unless(
+            operand_at(operands, 0) < types,
+            NUMBER,
+        )),
         CONSTANT_NULL | CONSTANT_UNDEF => {
             unless(operands.is_empty(), COUNT).or(unless(typed, PLACE))
         }

@@ -54,7 +54,7 @@ pub fn sum(a: u64, b: u64) -> Result<u64, NoMemory>
 /// Whether a code is one of three, from the first on.
 #[inline(always)]
 fn is_from(first: u32, code: u32) -> bool
-    requires { first < 100 }
+    requires { first < 2 ^ 31 }
     ensures { result ≡ is_code_from first code }
 {
     code == first || code == first + 1 || code == first + 2
@@ -62,7 +62,7 @@ fn is_from(first: u32, code: u32) -> bool
 
 /// How many records have one of three codes, from the first on.
 fn count_from(first: u32, parts: &[Part]) -> u64
-    requires { first < 100 }
+    requires { first < 2 ^ 31 }
     ensures value { result ≡ codes_from first (entries_in (parts_contents parts.now)) }
 {
     let mut count = 0;
@@ -81,7 +81,7 @@ fn count_from(first: u32, parts: &[Part]) -> u64
 /// # Errors
 /// `NoMemory` where there are 2^64 or more.
 pub fn count_in_blocks(id: u32, first: u32, parts: &[Part]) -> Result<u64, NoMemory>
-    requires { first < 100 }
+    requires { first < 2 ^ 31 }
     ensures { IfOk result (λ count. count ≡ codes_from first (all_of (blocks_in id (parts_contents parts.now)))) }
 {
     let mut count: u64 = 0;

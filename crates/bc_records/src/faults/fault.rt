@@ -1,10 +1,14 @@
 //! The fault of a block list, and the kinds of faults.
 
-ghost use Rattle.std.specs.Prelude.{◌≡◌};
+ghost use Rattle.std.specs.Prelude.{◌≡◌, [], ◌∷◌};
 ghost use Rattle.bc_records.specs.declared.faults.fault.Stop.TheVariants.{Memory};
 ghost use Rattle.bc_records.specs.FaultSearch.{Tells, fault_at, first_kind};
+ghost use Rattle.bc_records.specs.RecordFaults.{misplaced};
 ghost use Rattle.bc_records.specs.RecordKinds.{kind_if, kind_unless};
 
+use crate::codes::{
+    CONSTANTS_BLOCK, FUNCTION_BLOCK, METADATA_BLOCK, MODULE_BLOCK, SYMBOLS_BLOCK, TYPES_BLOCK,
+};
 use base_core::NoMemory;
 
 /// A fault: its kind, the number of its block among all blocks in the order in which they begin, and the number of
@@ -43,6 +47,21 @@ pub fn when(holds: bool, kind: u8) -> Option<u8>
     ensures { result ≡ first_kind (kind_if holds kind) }
 {
     if holds { Some(kind) } else { None }
+}
+
+/// The kind of a block where none of its id can stand.
+pub fn misplaced_kind(id: u32) -> u8
+    ensures { misplaced id ≡ result ∷ [] }
+{
+    match id {
+        MODULE_BLOCK
+        | CONSTANTS_BLOCK
+        | FUNCTION_BLOCK
+        | SYMBOLS_BLOCK
+        | METADATA_BLOCK
+        | TYPES_BLOCK => PLACE,
+        _ => UNREAD,
+    }
 }
 
 /// Why a walk over blocks stops.

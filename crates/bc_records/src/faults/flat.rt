@@ -8,14 +8,10 @@ ghost use Rattle.bc_records.specs.FaultSites.{sites};
 ghost use Rattle.bc_records.specs.FlatTables.{flat_table_of};
 ghost use Rattle.bc_records.specs.KnownTables.{known_by};
 ghost use Rattle.bc_records.specs.RecordKinds.{first_has_code, has_code, last_has_code};
-ghost use Rattle.bc_records.specs.RecordFaults.{misplaced};
 
-use crate::codes::{
-    CONSTANTS_BLOCK, FUNCTION_BLOCK, METADATA_BLOCK, METADATA_NAME, METADATA_NAMED_NODE,
-    MODULE_BLOCK, SYMBOLS_BLOCK, TYPES_BLOCK, TYPE_NUMENTRY,
-};
+use crate::codes::{METADATA_NAME, METADATA_NAMED_NODE, TYPE_NUMENTRY};
 use crate::faults::constants::constant_kind;
-use crate::faults::fault::{Fault, MISSING, PLACE, Stop, UNREAD, free_at, unless};
+use crate::faults::fault::{Fault, MISSING, Stop, free_at, misplaced_kind, unless};
 use crate::faults::metadata::metadata_kind;
 use crate::faults::tables::Tables;
 use crate::faults::types::type_kind;
@@ -45,17 +41,6 @@ fn come_after(come: Come, code: u32) -> Come
     Come {
         first: come.first || code == TYPE_NUMENTRY,
         name: code == METADATA_NAME,
-    }
-}
-
-/// The kind of a block where none of its id can stand.
-pub fn misplaced_kind(id: u32) -> u8
-    ensures { misplaced id ≡ result ∷ [] }
-{
-    match id {
-        MODULE_BLOCK | CONSTANTS_BLOCK | FUNCTION_BLOCK | SYMBOLS_BLOCK | METADATA_BLOCK
-        | TYPES_BLOCK => PLACE,
-        _ => UNREAD,
     }
 }
 

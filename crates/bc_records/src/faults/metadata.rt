@@ -11,15 +11,17 @@ use crate::codes::{
     METADATA_NAME, METADATA_NAMED_NODE, METADATA_NODE, METADATA_STRING, METADATA_VALUE,
 };
 use crate::faults::fault::{CHARACTER, COUNT, NUMBER, PLACE, UNREAD, unless};
-use crate::faults::operands::{all_name_one, are_characters, names_one, operand_at};
 use crate::faults::known::value_count;
+use crate::faults::operands::{all_name_one, are_characters, names_one, operand_at};
 use crate::faults::tables::Tables;
 
 /// Whether each part of a node is null or names one of so many metadata.
 fn all_name_parts(metas: u64, parts: &[u64]) -> bool
     ensures { result ≡ list_all (names_part metas) parts.now }
 {
-    parts.iter().all(|part| *part == 0 || names_one(metas, *part - 1))
+    parts
+        .iter()
+        .all(|part| *part == 0 || names_one(metas, *part - 1))
 }
 
 /// Whether the operands of VALUE name a type and a value.
@@ -42,8 +44,10 @@ pub fn metadata_kind(
 {
     match code {
         METADATA_STRING => unless(are_characters(operands), CHARACTER),
-        METADATA_VALUE => unless(operands.len() == 2, COUNT)
-            .or(unless(names_value_of(tables, operands), NUMBER)),
+        METADATA_VALUE => unless(operands.len() == 2, COUNT).or(unless(
+            names_value_of(tables, operands),
+            NUMBER,
+        )),
         METADATA_NODE => unless(all_name_parts(tables.metas, operands), NUMBER),
         METADATA_NAME => unless(followed, PLACE).or(unless(are_characters(operands), CHARACTER)),
         METADATA_NAMED_NODE => {

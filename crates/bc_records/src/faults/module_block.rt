@@ -19,9 +19,9 @@ use crate::codes::{
 use crate::faults::body_walk::body_block;
 use crate::faults::counts::{after_block, parts_of};
 use crate::faults::fault::{
-    CHARACTER, COUNT, MISSING, NUMBER, PLACE, Stop, UNREAD, free_at, unless, when,
+    CHARACTER, COUNT, MISSING, NUMBER, PLACE, Stop, UNREAD, free_at, misplaced_kind, unless, when,
 };
-use crate::faults::flat::{Flat, flat_block, misplaced_kind};
+use crate::faults::flat::{Flat, flat_block};
 use crate::faults::known::is_type_of_function;
 use crate::faults::operands::{are_characters, operand_at};
 use crate::faults::progress::Progress;
@@ -202,11 +202,7 @@ fn module_parts(
             }
         }
     }
-    free_at(
-        unless(has_all(progress, bodies.len()), MISSING),
-        number,
-        at,
-    )
+    free_at(unless(has_all(progress, bodies.len()), MISSING), number, at)
 }
 
 /// So many marks, none of which is set.

@@ -77,7 +77,11 @@ fn after_records(tables: &Tables, first: u64, parts: &[Part]) -> u64
 ///
 /// # Errors
 /// `NoMemory` where 2^62 values or more stand before its instructions.
-pub fn body_numbers(tables: &Tables, function: &[u64], parts: &[Part]) -> Result<BodyNumbers, NoMemory>
+pub fn body_numbers(
+    tables: &Tables,
+    function: &[u64],
+    parts: &[Part],
+) -> Result<BodyNumbers, NoMemory>
     requires { length parts.now < 2 ^ 31 }
     ensures numbers { IfOk result (λ numbers. numbers_form numbers ≡ numbers_of (known_by tables.now) function.now (parts_contents parts.now)) }
     ensures limit { IfOk result (λ numbers. numbers.first < 2 ^ 62) }

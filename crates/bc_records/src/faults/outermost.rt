@@ -10,8 +10,7 @@ ghost use Rattle.bc_records.specs.RecordKinds.{has_block};
 
 use crate::codes::MODULE_BLOCK;
 use crate::faults::counts::{after_block, parts_of};
-use crate::faults::fault::{Fault, MISSING, PLACE, Stop, free_at, unless};
-use crate::faults::flat::misplaced_kind;
+use crate::faults::fault::{Fault, MISSING, PLACE, Stop, free_at, misplaced_kind, unless};
 use crate::faults::module_block::module_faults;
 use bc_stream::BlockTree;
 use std::alloc::Global;

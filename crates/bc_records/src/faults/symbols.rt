@@ -10,9 +10,8 @@ ghost use Rattle.bc_records.specs.RecordKinds.{Known, symbol_kinds};
 
 use crate::codes::SYMBOL_ENTRY;
 use crate::faults::fault::{
-    CHARACTER, COUNT, Fault, NUMBER, PLACE, Stop, UNREAD, free_at, unless, when,
+    CHARACTER, COUNT, Fault, NUMBER, PLACE, Stop, UNREAD, free_at, misplaced_kind, unless, when,
 };
-use crate::faults::flat::misplaced_kind;
 use crate::faults::operands::{are_characters, behind_first, operand_at};
 use bc_stream::Part;
 

@@ -19,10 +19,19 @@ loop-part-preserved t c room =
       | in-Block w ↦
           let more = count-block items i c.part-item.result w.in-Block.inner c.loop-part-test.true c.part-item.is w.in-Block.is in
           let least = block-room items i (block_count (past items i)) c.part-item.result w.in-Block.inner c.loop-part-test.true c.part-item.is w.in-Block.is refl in
-          omega (arith, now, more, w.next-is,
-            w.after_block-next.ensures (omega (arith, now, least, room)))
-      | in_default w ↦ omega (arith, w.next-is, now,
-          count-entry items i c.part-item.result w.in_default.field-0 c.loop-part-test.true c.part-item.is w.in_default.is)
+          omega (
+            arith,
+            now,
+            more,
+            w.next-is,
+            w.after_block-next.ensures (omega (arith, now, least, room)),
+          )
+      | in_default w ↦ omega (
+        arith,
+        w.next-is,
+        now,
+        count-entry items i c.part-item.result w.in_default.field-0 c.loop-part-test.true c.part-item.is w.in_default.is,
+      )
     ]
 
 pub returns : goal.returns

@@ -21,24 +21,32 @@ loop-part-preserved c =
       | in-Entry+then-is_from w ↦
           let e = w.in-Entry.entry in
           record {
-            counted = omega (arith, w.count-is, c.loop-part.invariant.counted,
+            counted = omega (
+              arith,
+              w.count-is,
+              c.loop-part.invariant.counted,
               ap (codes_from first) (past-entries parts i c.part-item.result e c.loop-part-test.true c.part-item.is w.in-Entry.is),
               codes_from-append first (entries_in (past parts i)) (entry e.code e.values ∷ []),
-              codes_from-true first e.code e.values (sym w.if-is_from.ensures));
+              codes_from-true first e.code e.values (sym w.if-is_from.ensures),
+            );
             limit = omega (arith, w.count-is, c.loop-part.invariant.limit);
           }
       | in-Entry+else-is_from w ↦
           let e = w.in-Entry.entry in
           record {
-            counted = omega (arith, w.count-is, c.loop-part.invariant.counted,
+            counted = omega (
+              arith,
+              w.count-is,
+              c.loop-part.invariant.counted,
               ap (codes_from first) (past-entries parts i c.part-item.result e c.loop-part-test.true c.part-item.is w.in-Entry.is),
               codes_from-append first (entries_in (past parts i)) (entry e.code e.values ∷ []),
-              codes_from-false first e.code e.values (sym w.if-is_from.ensures));
+              codes_from-false first e.code e.values (sym w.if-is_from.ensures),
+            );
             limit = omega (arith, w.count-is, c.loop-part.invariant.limit);
           }
       | in_default w ↦ record {
-          counted = w.count-is ∙ (c.loop-part.invariant.counted
-              ∙ sym (ap (codes_from first) (entries-block parts i c.part-item.result w.in_default.field-0 c.loop-part-test.true c.part-item.is w.in_default.is)));
-          limit = omega (arith, w.count-is, c.loop-part.invariant.limit);
-        }
+        counted = w.count-is ∙ (c.loop-part.invariant.counted
+            ∙ sym (ap (codes_from first) (entries-block parts i c.part-item.result w.in_default.field-0 c.loop-part-test.true c.part-item.is w.in_default.is)));
+        limit = omega (arith, w.count-is, c.loop-part.invariant.limit);
+      }
     ]

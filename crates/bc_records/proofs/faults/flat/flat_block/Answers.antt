@@ -79,5 +79,5 @@ returns c =
     ∙ ap (fault_at c.args.number (length parts)) (sym (c.end_kind.ensures (parts_contents parts)
     (ap (λ ps. has_code 1 (entries_in (parts_contents ps))) (sym (take_all c.loop-at.at parts ended)) ∙ c.loop-at.invariant.first)))))
     c.free_at-2.ensures where
-  at-length : c.loop-at.at ≡ length c.args.parts.now
-  at-length = omega arith
+      at-length : c.loop-at.at ≡ length c.args.parts.now
+      at-length = omega arith

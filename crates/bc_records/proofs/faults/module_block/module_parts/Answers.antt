@@ -50,8 +50,12 @@ returns-in_err-free_at-in-Entry c =
 
 pub module_part-requires-clause-room : goal.module_part-requires-clause-room
 module_part-requires-clause-room c =
-    omega (arith, c.requires.room, c.loop-part.invariant.numbered,
-      block-room c.args.parts.now c.loop-part.part-index (block_count (past c.args.parts.now c.loop-part.part-index)) c.part-item.result c.in-Block.inner c.loop-part-test.true c.part-item.is c.in-Block.is refl)
+    omega (
+      arith,
+      c.requires.room,
+      c.loop-part.invariant.numbered,
+      block-room c.args.parts.now c.loop-part.part-index (block_count (past c.args.parts.now c.loop-part.part-index)) c.part-item.result c.in-Block.inner c.loop-part-test.true c.part-item.is c.in-Block.is refl,
+    )
 
 pub returns-in_err-module_part-in-Block : goal.returns-in_err-module_part-in-Block
 returns-in_err-module_part-in-Block c =

@@ -29,8 +29,8 @@ loop-part-preserved c =
           ∙ (ap (λ ops. entry_has_value known c.loop-part.next (entry e.code ops)) (sym w.as_slice.ensures.value) ∙ sym w.if-has_value.ensures) in
           record {
             so_far = w.next-is ∙ (add-one c.loop-part.next ∙ (ap suc so_far
-              ∙ sym (ap (next_after known first) (past-entries parts i c.part-item.result e c.loop-part-test.true c.part-item.is w.in-Entry.is)
-              ∙ next-more known first (entries_in (past parts i)) (entry e.code e.values) has)));
+                ∙ sym (ap (next_after known first) (past-entries parts i c.part-item.result e c.loop-part-test.true c.part-item.is w.in-Entry.is)
+                ∙ next-more known first (entries_in (past parts i)) (entry e.code e.values) has)));
             limit = omega (arith, w.next-is, c.loop-part.invariant.limit);
           }
       | in-Entry+else-has_value w ↦
@@ -40,13 +40,13 @@ loop-part-preserved c =
           ∙ (ap (λ ops. entry_has_value known c.loop-part.next (entry e.code ops)) (sym w.as_slice.ensures.value) ∙ sym w.if-has_value.ensures) in
           record {
             so_far = w.next-is ∙ (so_far
-              ∙ sym (ap (next_after known first) (past-entries parts i c.part-item.result e c.loop-part-test.true c.part-item.is w.in-Entry.is)
-              ∙ next-same known first (entries_in (past parts i)) (entry e.code e.values) has));
+                ∙ sym (ap (next_after known first) (past-entries parts i c.part-item.result e c.loop-part-test.true c.part-item.is w.in-Entry.is)
+                ∙ next-same known first (entries_in (past parts i)) (entry e.code e.values) has));
             limit = omega (arith, w.next-is, c.loop-part.invariant.limit);
           }
       | in_default w ↦ record {
-          so_far = w.next-is ∙ (so_far
+        so_far = w.next-is ∙ (so_far
             ∙ sym (ap (next_after known first) (entries-block parts i c.part-item.result w.in_default.field-0 c.loop-part-test.true c.part-item.is w.in_default.is)));
-          limit = omega (arith, w.next-is, c.loop-part.invariant.limit);
-        }
+        limit = omega (arith, w.next-is, c.loop-part.invariant.limit);
+      }
     ]

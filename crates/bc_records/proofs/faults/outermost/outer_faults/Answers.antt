@@ -53,8 +53,12 @@ loop-block-preserved c =
           ∙ c.in_ok-outer_part.ensures (outer_past blocks i) c.loop-block.invariant.seen);
       seen = outer-seen blocks i b c.loop-block-test.true c.block-item.is
           ∙ (ap (λ t. t || (b.id == module_block)) c.loop-block.invariant.seen ∙ sym c.module_behind-seen.ensures);
-      numbered = omega (arith, outer-count blocks i b c.loop-block-test.true c.block-item.is, c.loop-block.invariant.numbered,
-          c.after_block-number.ensures (omega (arith, c.requires, room, c.loop-block.invariant.numbered)));
+      numbered = omega (
+        arith,
+        outer-count blocks i b c.loop-block-test.true c.block-item.is,
+        c.loop-block.invariant.numbered,
+        c.after_block-number.ensures (omega (arith, c.requires, room, c.loop-block.invariant.numbered)),
+      );
     }
 
 pub returns : goal.returns

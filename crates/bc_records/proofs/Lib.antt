@@ -50,3 +50,12 @@ pub mod ReadNames
 pub mod ReadInstructions
 pub mod ReadDefined
 pub mod Answering
+pub mod FaultWalk
+pub mod FaultTables
+pub mod FaultSymbols
+pub mod FaultCounts
+pub mod FaultNumbers
+pub mod FaultSurvey
+pub mod FaultModules
+pub mod FaultOuter
+pub mod FaultOrder

@@ -14,6 +14,7 @@ ghost use Rattle.bc_records.specs.RecordKinds.{first_operand, operand};
 
 use super::constants::constants_in;
 use super::operands::{after, low_word, word_at};
+use crate::code::CALL_FRONT;
 use crate::codes::{DECLAREBLOCKS, INST_RET};
 use crate::values::{after_inst, first_of_body};
 use base_core::NoMemory;
@@ -24,9 +25,6 @@ use std::mem;
 
 /// The place of the function's operand in a CALL.
 const CALLED: usize = 3;
-
-/// How many operands a CALL has before its arguments.
-const CALL_FRONT: usize = 4;
 
 /// The value that an operand names, where the next value has the number `next` modulo 2^32.
 #[inline]

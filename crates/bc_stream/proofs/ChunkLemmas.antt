@@ -159,21 +159,6 @@ two_chunks bytes unit at first second number to p q flag below is fits to-is =
 
 -- ---- some chunks
 
-pub no_chunks_yet : (bytes : List ℕ) (unit at sum shift : ℕ) → at ≤ 8 * length bytes → sum ≡ 0 → shift ≡ 0 → ChunksAt bytes unit at at sum shift
-no_chunks_yet bytes unit at sum shift within none nowhere = record {
-  low = 0;
-  places = 0;
-  sum-is = none;
-  shift-is = nowhere;
-  onward = λ number to p. subst (λ n. Chunked unit n (place_in bytes at) to) (plain number) p;
-  back = λ number to p. (number, p);
-  forward = omega arith;
-  within = within;
-}
-  where
-    plain : (n : ℕ) → n ≡ 0 + 2 ^ 0 * n
-    plain n = omega arith
-
 -- a sum up to 2^64 with a chunk more
 capped_more : (low places chunk sum shift : ℕ) → sum ≡ min low (2 ^ 64) → shift ≡ min places 64 →
     min (sum + chunk * 2 ^ shift) (2 ^ 64) ≡ min (low + 2 ^ places * chunk) (2 ^ 64)

@@ -1,10 +1,34 @@
 //! Why bytes spell no blocks.
 
 ghost use Rattle.std.specs.Prelude.{◌≡◌};
-ghost use Rattle.bc_stream.specs.declared.fault.StreamFault.TheVariants.{Memory};
+ghost use Rattle.bc_stream.specs.declared.fault.StreamFault.TheVariants.{Bad, Memory};
 
 use base_core::NoMemory;
 use thiserror::Error;
+
+/// Other first four bytes.
+pub(crate) const WRONG_MAGIC: u8 = 1;
+
+/// The end of the bytes inside a piece, or in the place of a block's next piece.
+pub(crate) const END_OF_BYTES: u8 = 2;
+
+/// An abbreviation id that isn't defined.
+pub(crate) const UNDEFINED_ID: u8 = 3;
+
+/// A number above 64 bits, a block id or a code above 32 bits, or a width above 64.
+pub(crate) const TOO_LARGE: u8 = 4;
+
+/// A block that ends elsewhere than its length says.
+pub(crate) const WRONG_LENGTH: u8 = 5;
+
+/// Something else than a block outside all blocks.
+pub(crate) const OUTSIDE_BLOCKS: u8 = 7;
+
+/// More than 16 levels.
+pub(crate) const TOO_DEEP: u8 = 9;
+
+/// A definition of an abbreviation or the block of abbreviations.
+pub(crate) const NOT_BUILT: u8 = 10;
 
 /// Why bytes spell no blocks.
 #[derive(Clone, Copy, Debug, PartialEq, Eq, Error)]
@@ -35,5 +59,15 @@ impl From<NoMemory> for StreamFault {
 
     fn from(_refused: NoMemory) -> StreamFault {
         StreamFault::Memory
+    }
+}
+
+/// A fault of the piece at a place.
+pub(crate) fn fault(kind: u8, at: usize) -> StreamFault
+    ensures { result ≡ Bad kind at }
+{
+    StreamFault::Bad {
+        kind,
+        bit: at as u64,
     }
 }

@@ -1,13 +1,15 @@
 //! The pieces of a stream, each read whole and then judged.
 
 ghost use Rattle.std.specs.Prelude.{◌≡◌, ◌+◌, ◌*◌, ◌^◌, ◌<◌, ◌≤◌, length, MatchOption, MatchResult};
-ghost use Rattle.bc_stream.specs.declared.fault.StreamFault.TheVariants.{Bad};
 ghost use Rattle.bc_stream.specs.Spelling.{most_levels};
 ghost use Rattle.bc_stream.specs.Reading.{FixedAt};
 ghost use Rattle.bc_stream.specs.Pieces.{FaultAt, HasFault, HeadAt, IsBelow, NoHead, PieceAt};
 
 use crate::block::Values;
-use crate::fault::StreamFault;
+use crate::fault::{
+    END_OF_BYTES, NOT_BUILT, OUTSIDE_BLOCKS, StreamFault, TOO_DEEP, TOO_LARGE, UNDEFINED_ID,
+    WRONG_LENGTH, fault,
+};
 use crate::reader::{align, read_fixed, read_number};
 use crate::record::{RecordRead, read_record};
 use std::alloc::Global;
@@ -36,27 +38,6 @@ const MOST_WIDTH: u64 = 64;
 /// The greatest number of blocks in one another.
 const MOST_LEVELS: u32 = 16;
 
-/// The end of the bytes inside a piece, or in the place of a block's next piece.
-const END_OF_BYTES: u8 = 2;
-
-/// An abbreviation id that isn't defined.
-const UNDEFINED_ID: u8 = 3;
-
-/// A number above 64 bits, a block id or a code above 32 bits, or a width above 64.
-const TOO_LARGE: u8 = 4;
-
-/// A block that ends elsewhere than its length says.
-const WRONG_LENGTH: u8 = 5;
-
-/// Something else than a block outside all blocks.
-const OUTSIDE_BLOCKS: u8 = 7;
-
-/// More than 16 levels.
-const TOO_DEEP: u8 = 9;
-
-/// A definition of an abbreviation or the block of abbreviations.
-const NOT_BUILT: u8 = 10;
-
 /// What is known of the innermost open block, or of what stands outside all blocks.
 #[derive(Clone, Copy, Debug)]
 pub(crate) struct Scope {
@@ -71,14 +52,17 @@ pub(crate) struct Scope {
 /// A piece that has nothing against it, with the place behind it.
 #[derive(Debug, Drop)]
 pub(crate) enum Piece {
+    /// The end of a block.
     Leave {
         to: usize,
     },
+    /// The head of a block, with what is known inside it.
     Enter {
         id: u32,
         inner: Scope,
         to: usize,
     },
+    /// A record without an abbreviation.
     Record {
         code: u32,
         values: Values,
@@ -97,16 +81,6 @@ struct HeadRead {
     words: u64,
     /// The place behind the head.
     to: usize,
-}
-
-/// A fault of the piece at a place.
-fn fault(kind: u8, at: usize) -> StreamFault
-    ensures { result ≡ Bad kind at }
-{
-    StreamFault::Bad {
-        kind,
-        bit: at as u64,
-    }
 }
 
 /// A number, if it fits 32 bits.

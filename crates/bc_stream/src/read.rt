@@ -13,7 +13,7 @@ ghost use Rattle.bc_stream.specs.Bodies.{BlockAt, BodyAt, FaultFrom};
 
 use crate::block::{BlockList, Parts};
 use crate::build::{no_blocks, no_parts, push_block, push_entry, push_outermost};
-use crate::fault::StreamFault;
+use crate::fault::{OUTSIDE_BLOCKS, StreamFault, WRONG_MAGIC, fault};
 use crate::piece::{Piece, Scope, next_piece};
 use std::alloc::Global;
 
@@ -22,12 +22,6 @@ const MAGIC: [u8; 4] = [0x42, 0x43, 0xC0, 0xDE];
 
 /// Where the first piece begins.
 const START: usize = 32;
-
-/// Other first four bytes.
-const WRONG_MAGIC: u8 = 1;
-
-/// Something else than a block outside all blocks.
-const OUTSIDE_BLOCKS: u8 = 7;
 
 /// What stands outside all blocks.
 const OUTSIDE: Scope = Scope {
@@ -59,7 +53,7 @@ fn is_zero_from(bytes: &[u8], at: usize) -> bool
     is_zero(&bytes[at / 8..])
 }
 
-/// Reads the body of a block up to its end.
+/// Reads the body of a block up to its end. It calls itself once for each of the levels, of which there are at most 16.
 ///
 /// # Errors
 /// The fault of the first piece that has one, or `Memory` where memory is refused.
@@ -113,10 +107,7 @@ fn read_outermost(
     ensures { MatchResult result (BlockAt bytes.now at (contents_of blocks.old) (contents_of blocks.new)) (FaultFrom bytes.now OUTSIDE at) }
 {
     let Piece::Enter { id, inner, to } = next_piece(alloc, bytes, OUTSIDE, at)? else {
-        return Err(StreamFault::Bad {
-            kind: OUTSIDE_BLOCKS,
-            bit: at as u64,
-        });
+        return Err(fault(OUTSIDE_BLOCKS, at));
     };
     let body = read_body(alloc, bytes, inner, to)?;
     push_outermost(blocks, id, body.parts)?;
@@ -169,10 +160,7 @@ pub fn read_blocks(alloc: Global, bytes: &[u8]) -> Result<BlockList, StreamFault
     ensures faulty { (kind bit : ℕ) → Faulty bytes.now kind bit → (result ≡ Err (Bad kind bit)) ⊎ (result ≡ Err Memory) }
 {
     if !has_magic(bytes) {
-        return Err(StreamFault::Bad {
-            kind: WRONG_MAGIC,
-            bit: 0,
-        });
+        return Err(fault(WRONG_MAGIC, 0));
     }
     read_all(alloc, bytes)
 }

@@ -1,5 +1,5 @@
 -- What has come in MODULE, with one part more.
-use Rattle.std.proofs.Common.{◌≡◌, ℕ, suc, ◌+◌, ◌<◌, ◌≤◌, ◌==◌, Bool, true, false, ◌||◌, if◌then◌else◌, List, [], ◌∷◌, ◌++◌, length, refl, ap, sym, ◌∙◌, subst, arith, eq-eqb}
+use Rattle.std.proofs.Common.{◌≡◌, ℕ, suc, ◌+◌, ◌≤◌, ◌==◌, Bool, true, false, ◌||◌, if◌then◌else◌, List, [], ◌∷◌, ◌++◌, length, refl, ap, sym, ◌∙◌, subst, arith}
 use Rattle.std.proofs.lemmas.Bool.{ne_eqb, lt-ltb}
 use Rattle.std.specs.Prelude.{nat_lt, OnOk}
 use Rattle.std.proofs.Common.{Result, Ok, Err}
@@ -7,15 +7,15 @@ use Rattle.bc_records.specs.declared.faults.fault.Stop.{Stop}
 use Rattle.bc_stream.specs.Blocks.{Contents, no_more, a_record, a_block, append}
 use Rattle.bc_records.specs.declared.faults.progress.Progress.{Progress}
 use Rattle.bc_records.specs.Codes.{function_block, symbols_block, types_block}
-use Rattle.bc_records.specs.Entries.{Entry, entry, entries_in, blocks_in}
+use Rattle.bc_records.specs.Entries.{entry, entries_in, blocks_in}
 use Rattle.bc_records.specs.FaultSearch.{MarksNamed}
 use Rattle.bc_records.specs.ModuleProgress.{HasCome, MarksBefore, behind_code, behind_id}
 use Rattle.std.specs.Borrow.{Bor}
 use Rattle.std.proofs.Common.{map}
 use Rattle.std.proofs.lemmas.List.{length-map}
 use Rattle.bc_records.specs.HeldEntries.{operands_form}
-use Rattle.bc_records.specs.RecordFaults.{bodies_before, body_count}
-use Rattle.bc_records.specs.RecordKinds.{Known, has_code, has_block, all_of, with_bodies}
+use Rattle.bc_records.specs.RecordFaults.{body_count}
+use Rattle.bc_records.specs.RecordKinds.{Known, has_code, all_of, with_bodies}
 use Rattle.bc_records.proofs.FreeSites.{entries-append, more_none}
 use Rattle.bc_records.proofs.FaultWalk.{has-code-append}
 use Rattle.bc_records.proofs.FaultCounts.{blocks-append, all_of-one}

@@ -1,10 +1,10 @@
 -- The numbers of values in a body, with one record more.
-use Rattle.std.proofs.Common.{◌≡◌, ℕ, suc, ◌+◌, Bool, true, false, List, [], ◌∷◌, ◌++◌, ◌==◌, ◌||◌, ◌≤◌, refl, ap, sym, ◌∙◌, arith}
+use Rattle.std.proofs.Common.{◌≡◌, ℕ, suc, ◌+◌, Bool, true, false, List, [], ◌∷◌, ◌++◌, ◌==◌, ◌||◌, refl, ap, ◌∙◌, arith}
 use Rattle.std.specs.Prelude.{if◌then◌else◌}
 use Rattle.bc_records.specs.Entries.{Entry}
 use Rattle.bc_records.specs.declared.faults.place.Place.{Place}
 use Rattle.bc_records.specs.BodyPlaces.{IsBehind, place_behind}
-use Rattle.bc_records.specs.RecordKinds.{Known, Numbers, code_of, entry_has_value, next_after, has_code, count_code}
+use Rattle.bc_records.specs.RecordKinds.{Known, Numbers, code_of, entry_has_value, next_after, count_code}
 use Rattle.bc_records.proofs.FaultWalk.{has-code-append}
 use Rattle.bc_records.proofs.FaultCounts.{count_code-append}
 

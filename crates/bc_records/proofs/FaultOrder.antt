@@ -1,6 +1,6 @@
 -- The kinds of each place ascend, so that the first of them is the least; with this a first fault is the fault.
-use Rattle.std.proofs.Common.{◌≡◌, ℕ, suc, ◌+◌, ◌≤◌, ◌==◌, Bool, true, false, ◌||◌, if◌then◌else◌, Option, None, Some, List, [], ◌∷◌, ◌++◌, length, refl, ap, sym, ◌∙◌, subst, arith}
-use Rattle.std.specs.Prelude.{All, Contains, nat_lt, get_or}
+use Rattle.std.proofs.Common.{◌≡◌, ℕ, suc, ◌+◌, ◌≤◌, ◌==◌, Bool, true, false, ◌||◌, if◌then◌else◌, None, Some, List, [], ◌∷◌, ◌++◌, length, refl, ap, sym, subst, arith}
+use Rattle.std.specs.Prelude.{All, nat_lt, get_or}
 use Rattle.std.proofs.lemmas.List.Elements.{All-nil, All-cons, All-append}
 use Rattle.bc_stream.specs.Blocks.{Contents, no_more, a_record, a_block, append}
 use Rattle.bc_records.specs.declared.faults.fault.Fault.{Fault}
@@ -9,7 +9,7 @@ use Rattle.bc_records.specs.Entries.{Entry, entry, entries_in, blocks_in, block_
 use Rattle.bc_records.specs.FaultSearch.{first_kind, fault_at, or_else, first_fault}
 use Rattle.bc_records.specs.FaultSites.{Site, site, Table, IsFree, IsFirst, sites_after, sites}
 use Rattle.bc_records.specs.RecordKinds.{Known, Numbers, kind_if, kind_unless, has_block, type_kinds, constant_kinds, metadata_kinds, symbol_kinds, body_kinds, module_kinds, known_of, numbers_of, with_bodies, all_of}
-use Rattle.bc_records.specs.RecordFaults.{misplaced, types_table, constants_table, metadata_table, symbols_table, body_table, module_table, outer_table, body_heads, body_inside, module_heads, module_inside, outer_heads, outer_inside, record_sites, bodies_before, body_count}
+use Rattle.bc_records.specs.RecordFaults.{misplaced, types_table, constants_table, metadata_table, symbols_table, body_table, module_table, outer_table, body_heads, module_heads, module_inside, record_sites, bodies_before, body_count}
 
 -- kinds from a least one on, in ascending order
 abbrev pub Rises : (low : ℕ) → List ℕ → Type 0

@@ -1,19 +1,18 @@
 -- A walk over the outermost blocks.
-use Rattle.std.proofs.Common.{◌≡◌, ℕ, suc, ◌+◌, ◌<◌, ◌≤◌, ◌==◌, Bool, true, false, ◌||◌, if◌then◌else◌, Option, None, Some, List, [], ◌∷◌, ◌++◌, take, drop, length, get_or, refl, ap, sym, ◌∙◌, subst, arith, zero-add}
+use Rattle.std.proofs.Common.{◌≡◌, ℕ, suc, ◌+◌, ◌<◌, ◌≤◌, ◌==◌, ◌||◌, Option, None, Some, List, [], ◌∷◌, ◌++◌, take, drop, length, get_or, ap, sym, ◌∙◌, arith, zero-add}
 use Rattle.std.specs.Prelude.{nat_lt}
-use Rattle.std.proofs.lemmas.List.{drop_more, drop_all, take_all, take-append-drop}
-use Rattle.bc_stream.specs.Blocks.{Contents, no_more, a_record, a_block, append, parts_contents, contents_of, before_block}
+use Rattle.std.proofs.lemmas.List.{drop_more, drop_all, take-append-drop}
+use Rattle.bc_stream.specs.Blocks.{Contents, no_more, a_block, append, parts_contents, contents_of}
 use Rattle.bc_stream.specs.declared.block.BlockTree.{BlockTree}
 use Rattle.bc_stream.proofs.BlockLemmas.{contents_of-none, contents_of-first, contents_of-more}
 use Rattle.bc_records.specs.declared.faults.fault.Fault.{Fault}
 use Rattle.bc_records.specs.Codes.{module_block}
-use Rattle.bc_records.specs.Entries.{entries_in, blocks_in, block_count}
+use Rattle.bc_records.specs.Entries.{blocks_in, block_count}
 use Rattle.bc_records.specs.FaultSearch.{first_kind, fault_at, or_else, first_fault}
 use Rattle.bc_records.specs.FaultSites.{sites_after}
 use Rattle.bc_records.specs.RecordKinds.{has_block}
 use Rattle.bc_records.specs.RecordFaults.{outer_table, outer_heads, outer_inside}
 use Rattle.bc_records.proofs.FaultWalk.{count-append, or_else-or_else, or_else-some, or_else-none, first_fault-append}
-use Rattle.bc_records.proofs.FaultCounts.{blocks-append}
 use Rattle.bc_records.proofs.FaultModules.{counted-block, positive}
 use Rattle.bc_records.proofs.Steps.{drop-zero}
 

@@ -1,12 +1,12 @@
 -- What the block MODULE says, with one record more.
-use Rattle.std.proofs.Common.{◌≡◌, ◌≢◌, ℕ, ◌+◌, ◌<◌, ◌==◌, Bool, true, false, not, ◌||◌, ◌&&◌, Option, None, Some, List, [], ◌∷◌, ◌++◌, map, take, length, get_or, set, refl, ap, sym, ◌∙◌, subst, arith, eqb-true, eq-eqb, get_or-set_same, get_or-set_other, length-set}
+use Rattle.std.proofs.Common.{◌≡◌, ℕ, ◌+◌, ◌<◌, ◌==◌, Bool, true, false, ◌||◌, Some, List, [], ◌∷◌, ◌++◌, map, take, length, get_or, set, refl, ap, sym, ◌∙◌, arith, eq-eqb, get_or-set_same, get_or-set_other, length-set}
 use Rattle.std.specs.Prelude.{if◌then◌else◌, slice_get, ◌⊎◌}
 use Rattle.std.proofs.Common.{inl, inr}
 use Rattle.std.proofs.lemmas.List.{map-append, take_more}
 use Rattle.std.proofs.lemmas.Option.{slice_get-get_or}
 use Rattle.std.proofs.lemmas.Bool.{cases_order, ne_eqb}
 use Rattle.bc_records.specs.Entries.{Entry, entry}
-use Rattle.bc_records.specs.HeldEntries.{MarksAmong, is_the, operands_form}
+use Rattle.bc_records.specs.HeldEntries.{MarksAmong, operands_form}
 use Rattle.std.specs.Borrow.{Bor}
 use Rattle.bc_records.specs.RecordKinds.{code_of, operands_of, is_type_entry, type_entries, function_entries, has_body, with_bodies, same_entry, has_entry}
 use Rattle.bc_records.proofs.FreeSites.{more_none}

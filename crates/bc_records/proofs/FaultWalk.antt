@@ -1,5 +1,5 @@
 -- A walk over the parts of a block: the first fault of the whole is the first of what is left.
-use Rattle.std.proofs.Common.{◌≡◌, ℕ, zero, suc, ◌+◌, ◌<◌, ◌≤◌, Bool, true, false, Result, Ok, Err, ◌||◌, ◌==◌, Option, None, Some, List, [], ◌∷◌, ◌++◌, take, drop, length, get_or, refl, ap, sym, ◌∙◌, subst, arith, zero-add}
+use Rattle.std.proofs.Common.{◌≡◌, ℕ, suc, ◌+◌, ◌<◌, ◌≤◌, Bool, true, false, Result, Ok, Err, ◌||◌, ◌==◌, Option, None, Some, List, [], ◌∷◌, ◌++◌, take, drop, length, get_or, refl, ap, sym, ◌∙◌, subst, arith, zero-add}
 use Rattle.std.specs.Result.{IsErrAnd}
 use Rattle.std.proofs.lemmas.List.{drop_more, drop_all, take_all, take-append-drop}
 use Rattle.bc_stream.specs.Blocks.{Contents, no_more, a_record, a_block, append, before_part, parts_contents}
@@ -10,7 +10,7 @@ use Rattle.bc_stream.specs.declared.block.BlockTree.{BlockTree}
 use Rattle.bc_stream.proofs.BlockLemmas.{block_more, entry_more, parts_contents-none, parts_contents-first, before_part-Block, before_part-Entry, before_part-append, before_block-is}
 use Rattle.bc_records.specs.Entries.{Entry as EntryForm, entry, entries_in, block_count}
 use Rattle.bc_records.specs.RecordKinds.{code_of, has_code, last_has_code}
-use Rattle.bc_records.specs.FaultSites.{Site, site, Table, sites_after, sites}
+use Rattle.bc_records.specs.FaultSites.{Site, Table, sites_after}
 use Rattle.bc_records.specs.FaultSearch.{first_kind, fault_at, or_else, first_fault, IsStop, Tells}
 use Rattle.bc_records.specs.declared.faults.fault.Stop.{Stop}
 use Rattle.bc_records.specs.declared.faults.fault.Stop.TheVariants.{Found, Memory}

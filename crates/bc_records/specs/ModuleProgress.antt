@@ -1,12 +1,12 @@
 -- Where a walk over the block MODULE stands.
-use Rattle.std.specs.Prelude.{◌≡◌, suc, ◌==◌, ◌||◌, Bool, ℕ, if◌then◌else◌, List, length}
+use Rattle.std.specs.Prelude.{◌≡◌, suc, ◌==◌, ◌||◌, Bool, ℕ, if◌then◌else◌, List}
 use Rattle.bc_stream.specs.Blocks.{Contents}
 use Rattle.bc_records.specs.declared.faults.progress.Progress.{Progress}
 use Rattle.bc_records.specs.Codes.{function_block, symbols_block, types_block}
-use Rattle.bc_records.specs.Entries.{Entry, entries_in, blocks_in}
+use Rattle.bc_records.specs.Entries.{entries_in, blocks_in}
 use Rattle.bc_records.specs.FaultSearch.{MarksNamed}
 use Rattle.bc_records.specs.RecordFaults.{bodies_before}
-use Rattle.bc_records.specs.RecordKinds.{Known, code_of, has_code, has_block, all_of}
+use Rattle.bc_records.specs.RecordKinds.{has_code, has_block, all_of}
 
 -- what has come in front of a place
 pub record HasCome (before : Contents) (progress : Progress) : Type 0 where

@@ -1,13 +1,11 @@
 //! The faults of the blocks FUNCTION.
 
-ghost use Rattle.std.specs.Prelude.{◌≡◌, ◌<◌, ◌^◌, ◌+◌, ◌&&◌, Bool, List, drop, length, slice_get, option_and_then, option_map};
+ghost use Rattle.std.specs.Prelude.{◌≡◌, ◌<◌, ◌^◌, ◌+◌, ◌&&◌, drop};
 ghost use Rattle.std.specs.List.{list_all};
-ghost use Rattle.bc_records.specs.Entries.{Entry, entry};
+ghost use Rattle.bc_records.specs.Entries.{entry};
 ghost use Rattle.bc_records.specs.BodyRecords.{absolute};
-ghost use Rattle.bc_records.specs.FaultSearch.{first_kind};
-ghost use Rattle.bc_records.specs.HeldEntries.{signature_form};
 ghost use Rattle.bc_records.specs.KnownTables.{known_by};
-ghost use Rattle.bc_records.specs.RecordKinds.{Numbers, body_kinds, call_counts, call_names, called_signature, called_type, entry_has_value, has_code, is_past, names_operand, next_after, function_type_at, operand};
+ghost use Rattle.bc_records.specs.RecordKinds.{call_counts, call_names, entry_has_value, names_operand, function_type_at, operand};
 
 use crate::codes::INST_CALL;
 use crate::faults::known::{are_same_type, function_type, is_value_type, signature};

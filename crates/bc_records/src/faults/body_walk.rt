@@ -1,6 +1,6 @@
 //! A walk over a block FUNCTION.
 
-ghost use Rattle.std.specs.Prelude.{◌≡◌, suc, ◌+◌, ◌<◌, ◌≤◌, ◌^◌, List, [], ◌∷◌, ◌++◌, length};
+ghost use Rattle.std.specs.Prelude.{◌≡◌, suc, ◌+◌, ◌<◌, ◌≤◌, ◌^◌, List, length};
 ghost use Rattle.bc_stream.specs.Blocks.{parts_contents};
 ghost use Rattle.bc_records.specs.BodyPlaces.{IsBehind, place_behind};
 ghost use Rattle.bc_records.specs.Entries.{Entry, block_count, entry as an_entry};

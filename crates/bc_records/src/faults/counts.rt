@@ -1,6 +1,6 @@
 //! Counts of blocks and records.
 
-ghost use Rattle.std.specs.Prelude.{◌≡◌, suc, ◌+◌, ◌<◌, ◌≤◌, ◌^◌, IfOk, length};
+ghost use Rattle.std.specs.Prelude.{◌≡◌, suc, ◌+◌, ◌<◌, ◌^◌, IfOk, length};
 ghost use Rattle.bc_stream.specs.Blocks.{parts_contents};
 ghost use Rattle.bc_records.specs.Entries.{block_count, blocks_in, entries_in};
 ghost use Rattle.bc_records.specs.FaultCounts.{codes_from, is_code_from};

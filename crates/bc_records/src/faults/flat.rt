@@ -1,6 +1,6 @@
 //! The faults of the blocks TYPE_NEW, CONSTANTS and METADATA, which hold records alone.
 
-ghost use Rattle.std.specs.Prelude.{◌≡◌, ◌+◌, ◌<◌, ◌^◌, ◌==◌, ◌||◌, List, [], ◌∷◌, drop, length};
+ghost use Rattle.std.specs.Prelude.{◌≡◌, ◌+◌, ◌<◌, ◌^◌, ◌==◌, ◌||◌, List, drop, length};
 ghost use Rattle.bc_stream.specs.Blocks.{Contents, parts_contents};
 ghost use Rattle.bc_records.specs.Entries.{Entry as EntryForm, entry as an_entry, entries_in, block_count};
 ghost use Rattle.bc_records.specs.FaultSearch.{Tells, first_fault, first_kind};

@@ -1,6 +1,6 @@
 //! A walk over the block MODULE.
 
-ghost use Rattle.std.specs.Prelude.{◌≡◌, suc, ◌+◌, ◌<◌, ◌^◌, ◌==◌, if◌then◌else◌, List, [], ◌++◌, IfOk, OnOk, get_or, length, map};
+ghost use Rattle.std.specs.Prelude.{◌≡◌, suc, ◌+◌, ◌<◌, ◌^◌, ◌==◌, [], IfOk, OnOk, get_or, length, map};
 ghost use Rattle.bc_stream.specs.Blocks.{Contents, a_block, append, no_more, parts_contents};
 ghost use Rattle.bc_records.specs.Codes.{symbols_block};
 ghost use Rattle.bc_records.specs.Entries.{Entry, block_count, entries_in, entry as an_entry};

@@ -1,6 +1,6 @@
 //! The numbers of the values of a body.
 
-ghost use Rattle.std.specs.Prelude.{◌≡◌, ◌+◌, ◌<◌, ◌≤◌, ◌^◌, IfOk, length};
+ghost use Rattle.std.specs.Prelude.{◌≡◌, ◌+◌, ◌<◌, ◌^◌, IfOk, length};
 ghost use Rattle.bc_stream.specs.Blocks.{parts_contents};
 ghost use Rattle.bc_records.specs.Entries.{entries_in};
 ghost use Rattle.bc_records.specs.BodyNumbers.{numbers_form};

@@ -1,6 +1,6 @@
 //! A walk over the outermost blocks.
 
-ghost use Rattle.std.specs.Prelude.{◌≡◌, suc, ◌+◌, ◌<◌, ◌^◌, ◌==◌, ◌||◌, length};
+ghost use Rattle.std.specs.Prelude.{◌≡◌, suc, ◌+◌, ◌<◌, ◌^◌, ◌==◌, ◌||◌};
 ghost use Rattle.bc_stream.specs.Blocks.{Contents, contents_of, parts_contents};
 ghost use Rattle.bc_records.specs.Codes.{module_block};
 ghost use Rattle.bc_records.specs.Entries.{block_count};

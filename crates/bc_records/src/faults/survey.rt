@@ -1,6 +1,6 @@
 //! A survey of what the block MODULE says, before it is judged.
 
-ghost use Rattle.std.specs.Prelude.{◌≡◌, ℕ, ◌+◌, ◌<◌, List, [], ◌∷◌, ◌++◌, IfOk, length, map};
+ghost use Rattle.std.specs.Prelude.{◌≡◌, ℕ, ◌+◌, ◌<◌, List, [], ◌∷◌, ◌++◌, IfOk, map};
 ghost use Rattle.bc_stream.specs.Blocks.{parts_contents};
 ghost use Rattle.bc_records.specs.Entries.{Entry as EntryForm, entries_in, entry as an_entry};
 ghost use Rattle.bc_records.specs.HeldEntries.{MarksAmong, MarksPointers, entry_form, is_the, operands_form};

@@ -1,7 +1,7 @@
 //! Block lists whose faults are known.
 
-ghost use Rattle.std.specs.Prelude.{◌≡◌, [], ◌∷◌, ◌<◌, ◌^◌, ◌≤◌, IfOk};
-ghost use Rattle.bc_stream.specs.Blocks.{a_block, a_record, contents_of, no_more, parts_contents};
+ghost use Rattle.std.specs.Prelude.{◌≡◌, [], ◌∷◌, ◌<◌, IfOk};
+ghost use Rattle.bc_stream.specs.Blocks.{a_record, contents_of, no_more, parts_contents};
 ghost use Rattle.bc_records.specs.Entries.{block_count};
 
 use crate::codes::{

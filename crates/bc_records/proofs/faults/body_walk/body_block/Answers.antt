@@ -1,17 +1,16 @@
-use Rattle.std.proofs.Common.{◌≡◌, ◌∙◌, ◌++◌, [], ◌∷◌, Option, Some, None, false, ap, refl, sym, suc, ◌+◌, subst, arith, length, add-one}
+use Rattle.std.proofs.Common.{◌≡◌, ◌∙◌, false, ap, refl, sym, suc, ◌+◌, subst, arith, add-one}
 use Rattle.std.proofs.lemmas.List.{take_all}
-use Rattle.bc_stream.specs.Blocks.{parts_contents, no_more}
-use Rattle.bc_records.specs.declared.faults.fault.Fault.{Fault}
+use Rattle.bc_stream.specs.Blocks.{parts_contents}
 use Rattle.bc_records.specs.declared.faults.place.Place.{Place}
 use Rattle.bc_records.specs.BodyNumbers.{numbers_form}
 use Rattle.bc_records.specs.BodyPlaces.{IsBehind, place_behind}
 use Rattle.bc_records.specs.Entries.{entry, entries_in, block_count}
-use Rattle.bc_records.specs.FaultSearch.{Tells, fault_at, first_kind, or_else}
+use Rattle.bc_records.specs.FaultSearch.{fault_at, first_kind}
 use Rattle.bc_records.specs.FaultSites.{Table}
 use Rattle.bc_records.specs.KnownTables.{known_by}
 use Rattle.bc_records.specs.RecordFaults.{body_table}
 use Rattle.bc_records.specs.RecordKinds.{Numbers, numbers_of, body_kinds, has_code, kind_unless}
-use Rattle.bc_records.proofs.FaultWalk.{past, left, past-none, past-entries, Walked, walked-start, walked-record, walked-block, found-record, found-block, whole_fault, told-exit, told-same, at-end, block-room}
+use Rattle.bc_records.proofs.FaultWalk.{past, past-none, past-entries, Walked, walked-start, walked-record, walked-block, found-record, found-block, whole_fault, told-exit, told-same, at-end, block-room}
 use Rattle.bc_records.proofs.FaultCounts.{count-block, count-entry, entries-block}
 use Rattle.bc_records.proofs.FaultNumbers.{behind-more}
 use Rattle.bc_records.proofs.FaultTables.{part_fault}

@@ -1,4 +1,4 @@
-use Rattle.std.proofs.Common.{◌≡◌, ◌∙◌, ◌+◌, ◌<◌, suc, ap, sym, arith, refl, rules}
+use Rattle.std.proofs.Common.{ap, arith, refl}
 use Rattle.std.proofs.lemmas.List.{take_all}
 use Rattle.bc_stream.specs.Blocks.{parts_contents}
 use Rattle.bc_records.specs.Entries.{block_count}

@@ -1,4 +1,4 @@
-use Rattle.std.proofs.Common.{◌≡◌, ◌∙◌, ◌+◌, ◌∷◌, [], ap, sym, arith}
+use Rattle.std.proofs.Common.{◌∙◌, ◌∷◌, [], ap, sym, arith}
 use Rattle.bc_records.specs.Entries.{entry, entries_in}
 use Rattle.bc_records.specs.FaultCounts.{codes_from}
 use Rattle.bc_records.proofs.FaultWalk.{past, past-none, past-entries}

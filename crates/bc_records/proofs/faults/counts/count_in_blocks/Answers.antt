@@ -1,6 +1,6 @@
-use Rattle.std.proofs.Common.{◌≡◌, ◌∙◌, ◌+◌, ◌∷◌, [], ap, sym, arith}
+use Rattle.std.proofs.Common.{◌∙◌, ◌+◌, ap, sym}
 use Rattle.bc_stream.specs.Blocks.{parts_contents}
-use Rattle.bc_records.specs.Entries.{entry, entries_in, blocks_in}
+use Rattle.bc_records.specs.Entries.{entries_in, blocks_in}
 use Rattle.bc_records.specs.RecordKinds.{all_of}
 use Rattle.bc_records.specs.FaultCounts.{codes_from}
 use Rattle.bc_records.proofs.FaultWalk.{past, past-none}

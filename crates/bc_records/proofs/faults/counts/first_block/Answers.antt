@@ -1,7 +1,7 @@
-use Rattle.std.proofs.Common.{◌≡◌, ◌∙◌, ◌+◌, ap, sym, ◌∷◌, List, []}
+use Rattle.std.proofs.Common.{◌∙◌, ◌+◌, ap, sym, ◌∷◌}
 use Rattle.std.specs.Prelude.{if◌then◌else◌}
 use Rattle.std.proofs.lemmas.Bool.{eq-eqb, ne_eqb}
-use Rattle.bc_stream.specs.Blocks.{Contents, parts_contents}
+use Rattle.bc_stream.specs.Blocks.{parts_contents}
 use Rattle.bc_records.specs.Entries.{entries_in, blocks_in}
 use Rattle.bc_records.specs.RecordKinds.{first_of}
 use Rattle.bc_stream.proofs.BlockLemmas.{parts_contents-none}

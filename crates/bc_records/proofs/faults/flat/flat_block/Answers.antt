@@ -1,4 +1,4 @@
-use Rattle.std.proofs.Common.{◌≡◌, ◌∙◌, ◌++◌, [], ap, refl, sym, suc, ◌+◌, ◌∷◌, ◌==◌, ◌||◌, subst, arith, drop, length, zero-add, add-one}
+use Rattle.std.proofs.Common.{◌≡◌, ◌∙◌, ◌++◌, [], ap, sym, suc, ◌+◌, ◌∷◌, ◌==◌, ◌||◌, subst, arith, length, add-one}
 use Rattle.bc_stream.specs.Blocks.{parts_contents}
 use Rattle.bc_records.specs.Entries.{entry, entries_in}
 use Rattle.bc_records.specs.KnownTables.{known_by}
@@ -6,7 +6,7 @@ use Rattle.bc_records.specs.FlatTables.{flat_table_of}
 use Rattle.bc_records.specs.FaultSearch.{fault_at, first_kind}
 use Rattle.bc_records.specs.FaultSites.{Table}
 use Rattle.bc_records.specs.RecordKinds.{has_code, last_has_code}
-use Rattle.bc_records.proofs.FaultWalk.{past, left, past-none, Walked, walked-start, walked-record, found-record, found-head, whole_fault, told-exit, past-record, has-code-append, last-code-append, at-end, block-room, stop-same, told-same}
+use Rattle.bc_records.proofs.FaultWalk.{past, left, past-none, Walked, walked-start, walked-record, found-record, found-head, whole_fault, told-exit, past-record, has-code-append, last-code-append, at-end, block-room, told-same}
 use Rattle.std.proofs.lemmas.List.{take_all}
 use Rattle.bc_records.specs.declared.faults.flat.Come.{Come}
 use Rattle.bc_records.proofs.FaultTables.{flat-head}

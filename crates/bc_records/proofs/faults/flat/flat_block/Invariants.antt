@@ -1,5 +1,4 @@
-use Rattle.std.proofs.Common.{◌≡◌, suc, ◌+◌}
-use Rattle.bc_stream.specs.Blocks.{parts_contents}
+use Rattle.std.proofs.Common.{◌≡◌, suc}
 use Rattle.bc_records.specs.Entries.{entries_in}
 use Rattle.bc_records.specs.KnownTables.{known_by}
 use Rattle.bc_records.specs.FlatTables.{flat_table_of}

@@ -1,14 +1,13 @@
-use Rattle.std.proofs.Common.{◌≡◌, ◌∙◌, ◌<◌, ◌++◌, [], ap, refl, sym, suc, ◌+◌, subst, arith, get_or, map}
+use Rattle.std.proofs.Common.{◌∙◌, ◌++◌, [], ap, sym, subst, arith, get_or}
 use Rattle.std.proofs.lemmas.Result.{on_ok_weaker}
-use Rattle.bc_stream.specs.Blocks.{Contents, a_block, no_more, append, parts_contents}
-use Rattle.bc_records.specs.Entries.{block_count, entries_in, blocks_in}
+use Rattle.bc_stream.specs.Blocks.{a_block, no_more, append, parts_contents}
+use Rattle.bc_records.specs.Entries.{entries_in, blocks_in}
 use Rattle.bc_records.specs.FaultSearch.{Tells, first_fault, MarksNamed}
 use Rattle.bc_records.specs.FaultSites.{sites}
-use Rattle.bc_records.specs.HeldEntries.{operands_form}
 use Rattle.bc_records.specs.KnownTables.{known_by}
 use Rattle.bc_records.specs.ModuleProgress.{MarksBefore}
-use Rattle.bc_records.specs.RecordFaults.{body_table, module_inside, bodies_before}
-use Rattle.bc_records.specs.RecordKinds.{Numbers, all_of, numbers_of, with_bodies}
+use Rattle.bc_records.specs.RecordFaults.{body_table, module_inside}
+use Rattle.bc_records.specs.RecordKinds.{all_of, numbers_of, with_bodies}
 use Rattle.bc_records.proofs.FaultModules.{marks-other, marks-symbols, on-ok}
 use Rattle.bc_records.proofs.faults.module_block.inside_block.Goals as goal
 

@@ -1,7 +1,6 @@
-use Rattle.std.proofs.Common.{◌≡◌, ◌∙◌, ap, sym, subst, length}
+use Rattle.std.proofs.Common.{◌∙◌, ap, sym}
 use Rattle.bc_stream.specs.Blocks.{parts_contents}
-use Rattle.bc_records.specs.FaultSearch.{Tells, fault_at, first_fault, first_kind, or_else}
-use Rattle.bc_records.specs.HeldEntries.{operands_form}
+use Rattle.bc_records.specs.FaultSearch.{fault_at, first_fault, first_kind, or_else}
 use Rattle.bc_records.specs.KnownTables.{known_by}
 use Rattle.bc_records.specs.RecordFaults.{module_heads, module_inside}
 use Rattle.bc_records.proofs.FaultWalk.{told-exit, told-same, or_else-some, or_else-none}

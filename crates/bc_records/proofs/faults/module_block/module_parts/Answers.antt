@@ -1,16 +1,16 @@
-use Rattle.std.proofs.Common.{◌≡◌, ◌∙◌, ◌++◌, [], ◌∷◌, Option, Some, None, false, ap, refl, sym, suc, ◌+◌, subst, arith, length, add-one}
+use Rattle.std.proofs.Common.{◌≡◌, ◌∙◌, false, ap, refl, sym, suc, ◌+◌, subst, arith, add-one}
 use Rattle.std.proofs.lemmas.List.{take_all}
-use Rattle.bc_stream.specs.Blocks.{Contents, a_block, a_record, append, parts_contents, no_more}
+use Rattle.bc_stream.specs.Blocks.{parts_contents}
 use Rattle.bc_stream.proofs.BlockLemmas.{block_more, entry_more}
 use Rattle.bc_records.specs.declared.faults.progress.Progress.{Progress}
 use Rattle.bc_records.specs.Entries.{entry, entries_in, block_count}
-use Rattle.bc_records.specs.FaultSearch.{fault_at, first_kind, or_else}
+use Rattle.bc_records.specs.FaultSearch.{fault_at, first_kind}
 use Rattle.bc_records.specs.FaultSites.{Table}
 use Rattle.bc_records.specs.KnownTables.{known_by}
 use Rattle.bc_records.specs.ModuleProgress.{HasCome, MarksBefore, behind_code, behind_id}
 use Rattle.bc_records.specs.RecordFaults.{is_complete, module_table}
 use Rattle.bc_records.specs.RecordKinds.{module_kinds, kind_unless}
-use Rattle.bc_records.proofs.FaultWalk.{past, left, past-none, Walked, walked-start, walked-record, walked-block, found-record, found-block, whole_fault, told-exit, told-same, at-end, block-room}
+use Rattle.bc_records.proofs.FaultWalk.{past, past-none, Walked, walked-start, walked-record, walked-block, found-record, found-block, whole_fault, told-exit, told-same, at-end, block-room}
 use Rattle.bc_records.proofs.FaultCounts.{count-block, count-entry}
 use Rattle.bc_records.proofs.FaultTables.{module_part_fault}
 use Rattle.bc_records.proofs.FaultModules.{marks-record, come-record, come-block, count-bodies, bodies-limit}

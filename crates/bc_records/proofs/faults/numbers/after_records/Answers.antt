@@ -1,4 +1,4 @@
-use Rattle.std.proofs.Common.{◌≡◌, ◌∙◌, ◌+◌, suc, ap, sym, subst, arith, true, false, add-one}
+use Rattle.std.proofs.Common.{◌≡◌, ◌∙◌, suc, ap, sym, arith, true, false, add-one}
 use Rattle.bc_records.specs.Entries.{entry, entries_in}
 use Rattle.bc_records.specs.KnownTables.{known_by}
 use Rattle.bc_records.specs.RecordKinds.{next_after, entry_has_value}

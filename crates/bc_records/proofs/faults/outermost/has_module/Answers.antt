@@ -1,7 +1,7 @@
-use Rattle.std.proofs.Common.{◌≡◌, ◌∙◌, ◌+◌, ◌∷◌, suc, ap, sym, arith, length}
+use Rattle.std.proofs.Common.{◌∙◌, ◌+◌, ◌∷◌, suc, ap, sym, arith, length}
 use Rattle.std.specs.Prelude.{if◌then◌else◌, nat_lt}
 use Rattle.std.proofs.lemmas.Bool.{eq-eqb, ne_eqb, lt-ltb}
-use Rattle.bc_stream.specs.Blocks.{contents_of, parts_contents}
+use Rattle.bc_stream.specs.Blocks.{parts_contents}
 use Rattle.bc_records.specs.Entries.{blocks_in}
 use Rattle.bc_records.proofs.FaultOuter.{outer_left, outer-left, outer-none}
 use Rattle.bc_records.proofs.faults.outermost.has_module.Goals as goal

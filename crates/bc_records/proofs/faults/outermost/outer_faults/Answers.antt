@@ -1,13 +1,12 @@
-use Rattle.std.proofs.Common.{◌≡◌, ◌∙◌, ◌+◌, ◌==◌, ◌||◌, ℕ, Bool, Option, Some, None, suc, ap, sym, subst, arith, refl, length}
+use Rattle.std.proofs.Common.{◌≡◌, ◌∙◌, ◌==◌, ◌||◌, ℕ, Bool, Option, None, ap, sym, arith}
 use Rattle.bc_stream.specs.Blocks.{Contents, contents_of, parts_contents, no_more}
 use Rattle.bc_stream.proofs.BlockLemmas.{contents_of-none}
-use Rattle.bc_records.specs.declared.faults.fault.Fault.{Fault}
 use Rattle.bc_records.specs.Codes.{module_block}
 use Rattle.bc_records.specs.Entries.{block_count}
 use Rattle.bc_records.specs.FaultSearch.{fault_at, first_kind, or_else}
 use Rattle.bc_records.specs.RecordKinds.{has_block, kind_unless}
 use Rattle.bc_records.proofs.FaultWalk.{told-exit, or_else-none}
-use Rattle.bc_records.proofs.FaultOuter.{outer_past, outer_rest, outer_fault, OuterWalked, outer-start, outer-more, outer-found, outer-end, outer-count, outer-seen, outer-room}
+use Rattle.bc_records.proofs.FaultOuter.{outer_past, outer_rest, outer_fault, outer-start, outer-more, outer-found, outer-end, outer-count, outer-seen, outer-room}
 use Rattle.bc_records.proofs.faults.outermost.outer_faults.Goals as goal
 
 pub loop-block-init : goal.loop-block-init

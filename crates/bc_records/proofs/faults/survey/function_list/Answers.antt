@@ -1,6 +1,6 @@
-use Rattle.std.proofs.Common.{◌≡◌, ◌∙◌, ◌++◌, ◌∷◌, [], ap, sym, map, eq-eqb}
+use Rattle.std.proofs.Common.{◌∙◌, ◌++◌, ◌∷◌, [], ap, sym, map, eq-eqb}
 use Rattle.std.proofs.lemmas.Bool.{ne_eqb}
-use Rattle.bc_records.specs.Entries.{Entry, entry, entries_in}
+use Rattle.bc_records.specs.Entries.{entry, entries_in}
 use Rattle.bc_records.specs.HeldEntries.{operands_form}
 use Rattle.bc_records.specs.RecordKinds.{function_entries}
 use Rattle.bc_records.proofs.FaultWalk.{past, past-none, past-entries}

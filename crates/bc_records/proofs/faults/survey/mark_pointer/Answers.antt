@@ -1,4 +1,4 @@
-use Rattle.std.proofs.Common.{◌≡◌, ◌<◌, ◌∙◌, arith}
+use Rattle.std.proofs.Common.{◌∙◌, arith}
 use Rattle.std.proofs.lemmas.Bool.{ne_eqb}
 use Rattle.bc_records.specs.Entries.{entry}
 use Rattle.bc_records.proofs.FaultSurvey.{unmarked-pointer, marked-pointer}

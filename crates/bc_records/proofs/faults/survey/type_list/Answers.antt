@@ -1,5 +1,5 @@
-use Rattle.std.proofs.Common.{◌≡◌, ◌∙◌, ◌++◌, ◌∷◌, [], ap, sym, map}
-use Rattle.bc_records.specs.Entries.{Entry, entry, entries_in}
+use Rattle.std.proofs.Common.{◌∙◌, ◌++◌, ◌∷◌, [], ap, sym, map}
+use Rattle.bc_records.specs.Entries.{entry, entries_in}
 use Rattle.bc_records.specs.HeldEntries.{entry_form}
 use Rattle.bc_records.specs.RecordKinds.{type_entries}
 use Rattle.bc_records.proofs.FaultWalk.{past, past-none, past-entries}

@@ -1,6 +1,6 @@
-use Rattle.std.proofs.Common.{◌≡◌, ℕ, ◌<◌, ◌∷◌, ◌++◌, [], List, refl, sym, ap, ◌∙◌, subst, arith, length, get_or, set, true, eqb-true}
+use Rattle.std.proofs.Common.{◌∷◌, ◌++◌, [], refl, sym, subst, arith, length, get_or, set, true, eqb-true}
 use Rattle.std.proofs.lemmas.Bool.{eqb-false}
-use Rattle.bc_records.specs.Entries.{Entry, entry}
+use Rattle.bc_records.specs.Entries.{entry}
 use Rattle.bc_records.specs.FaultSearch.{MarksNamed}
 use Rattle.bc_records.proofs.FaultSymbols.{unmarked-more, marked-more, other-code, none-named, not-named}
 use Rattle.bc_records.proofs.faults.symbols.mark.Goals as goal

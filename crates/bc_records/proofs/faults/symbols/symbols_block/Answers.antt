@@ -1,12 +1,11 @@
-use Rattle.std.proofs.Common.{◌≡◌, ℕ, ◌∙◌, ◌<◌, ◌++◌, [], ◌∷◌, List, ap, refl, sym, suc, ◌+◌, subst, arith, length, add-one, append_assoc}
-use Rattle.std.proofs.lemmas.List.{take_all}
-use Rattle.bc_stream.specs.Blocks.{parts_contents, no_more}
-use Rattle.bc_records.specs.Entries.{Entry, entry, entries_in}
+use Rattle.std.proofs.Common.{◌≡◌, ◌∙◌, ◌++◌, [], ◌∷◌, ap, sym, suc, ◌+◌, subst, arith, length, add-one, append_assoc}
+use Rattle.bc_stream.specs.Blocks.{parts_contents}
+use Rattle.bc_records.specs.Entries.{entry, entries_in}
 use Rattle.bc_records.specs.FaultSearch.{MarksNamed, fault_at, first_kind}
 use Rattle.bc_records.specs.FaultSites.{Table}
 use Rattle.bc_records.specs.RecordFaults.{symbols_table}
-use Rattle.bc_records.specs.RecordKinds.{Known, symbol_kinds}
-use Rattle.bc_records.proofs.FaultWalk.{past, left, past-none, Walked, walked-start, walked-record, found-record, found-head, whole_fault, told-exit, past-record, past-entries, at-end, room-first}
+use Rattle.bc_records.specs.RecordKinds.{symbol_kinds}
+use Rattle.bc_records.proofs.FaultWalk.{past, left, past-none, Walked, walked-start, walked-record, found-record, found-head, whole_fault, told-exit, past-entries, at-end, room-first}
 use Rattle.bc_records.proofs.FaultTables.{number-first}
 use Rattle.bc_records.proofs.FreeSites.{more_none}
 use Rattle.bc_records.proofs.faults.symbols.symbols_block.Goals as goal

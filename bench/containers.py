@@ -162,6 +162,11 @@ def container(bitcode):
     return header + parts + part(b'DXIL', program + bitcode)
 
 
+def bitcode_of(container):
+    """The bitcode of a container that `container` made."""
+    return container[128:]
+
+
 def filled(size, make, unit):
     """The container of at most `size` bytes that `make` gives from a number of units, each of so many bits."""
     empty = len(container(make(0)))

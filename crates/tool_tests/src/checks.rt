@@ -6,7 +6,8 @@ use std::process::Abort;
 use std::test::Fail;
 
 /// A kernel of one store.
-const KERNEL: &[u8] = b"RWByteAddressBuffer dst : register(u0); [numthreads(1,1,1)] void main() { dst.Store(0, 7); }";
+const KERNEL: &[u8] =
+    b"RWByteAddressBuffer dst : register(u0); [numthreads(1,1,1)] void main() { dst.Store(0, 7); }";
 
 /// The container of the kernel.
 fn container(rt: &HostRuntime) -> Result<Bytes, Fail> {
@@ -15,7 +16,13 @@ fn container(rt: &HostRuntime) -> Result<Bytes, Fail> {
 }
 
 /// Checks bytes, and compares what is printed.
-fn assert_prints(rt: &HostRuntime, bytes: &[u8], status: Status, output: &[u8], note: &[u8]) -> Result<(), Fail> {
+fn assert_prints(
+    rt: &HostRuntime,
+    bytes: &[u8],
+    status: Status,
+    output: &[u8],
+    note: &[u8],
+) -> Result<(), Fail> {
     let mut words = Vec::new(rt.alloc());
     words.push(String::from_str(rt.alloc(), "check")?)?;
     let mut input = PlainSource::new(Bytes::from_slice(rt.alloc(), bytes)?);
@@ -54,7 +61,13 @@ fn a_container_of_another_name_is_refused(rt: HostRuntime) -> Result<(), Fail> {
     let whole = container(&rt)?;
     let mut bytes = Vec::from_slice(rt.alloc(), whole.as_slice())?;
     bytes[0] = b'C';
-    assert_prints(&rt, &bytes, Status::Refused, b"", b"error: container 2 at 0\n")
+    assert_prints(
+        &rt,
+        &bytes,
+        Status::Refused,
+        b"",
+        b"error: container 2 at 0\n",
+    )
 }
 
 #[test]
@@ -62,5 +75,11 @@ fn a_bitcode_of_another_name_is_refused(rt: HostRuntime) -> Result<(), Fail> {
     let whole = container(&rt)?;
     let mut bytes = Vec::from_slice(rt.alloc(), whole.as_slice())?;
     bytes[131] = 0xDF;
-    assert_prints(&rt, &bytes, Status::Refused, b"", b"error: stream 1 at bit 0\n")
+    assert_prints(
+        &rt,
+        &bytes,
+        Status::Refused,
+        b"",
+        b"error: stream 1 at bit 0\n",
+    )
 }

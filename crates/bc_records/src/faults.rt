@@ -37,8 +37,8 @@ use std::alloc::Global;
 /// The fault of a block list, or none.
 ///
 /// # Errors
-/// `NoMemory` where memory is refused, where a block has more than 2147483647 parts, or where numbers of constants,
-/// metadata or values pass 2^62.
+/// `NoMemory` where memory is refused, where a block has more than 2147483647 parts, where 2^62 values or more stand
+/// before the instructions of a body, or where a count of constants or metadata is 2^64 or more.
 pub fn record_fault(alloc: Global, blocks: &BlockList) -> Result<Option<Fault>, NoMemory>
     requires { block_count (contents_of blocks.now) < 2 ^ 32 }
     ensures { IfOk result (λ found. MatchOption found (All IsFree (record_sites (contents_of blocks.now))) (λ fault. IsFault (contents_of blocks.now) fault.kind fault.block fault.at)) }

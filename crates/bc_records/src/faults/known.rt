@@ -65,6 +65,9 @@ pub fn is_value_type(tables: &Tables, ty: u64) -> bool
 pub fn are_same_type(tables: &Tables, a: u64, b: u64) -> bool
     ensures { result ≡ same_type (known_by tables.now) a b }
 {
+    if a == b {
+        return signature(tables, a).is_some();
+    }
     match (signature(tables, a), signature(tables, b)) {
         (Some(a), Some(b)) => a.0 == b.0 && a.1 == b.1,
         _ => false,

@@ -55,7 +55,7 @@ body_blocks known numbers first before (a_block id inner rest) ids each =
 
 -- modules
 
-five : (Q : ℕ → Type 0) (x : ℕ) → Q 11 → Q 12 → Q 14 → Q 15 → Q 17 → Contains (11 ∷ 12 ∷ 14 ∷ 15 ∷ 17 ∷ []) x → Q x
+pub five : (Q : ℕ → Type 0) (x : ℕ) → Q 11 → Q 12 → Q 14 → Q 15 → Q 17 → Contains (11 ∷ 12 ∷ 14 ∷ 15 ∷ 17 ∷ []) x → Q x
 five Q x p q r s t has = by has.0 has.1 has.2
   where
     by : (k : ℕ) → k < 5 → get_or (11 ∷ 12 ∷ 14 ∷ 15 ∷ 17 ∷ []) k x ≡ x → Q x

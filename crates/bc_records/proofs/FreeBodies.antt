@@ -29,7 +29,7 @@ past_not n k less = tells (leb_tells n k)
     tells (inr h) = h.0
 
 -- one record more, and the number of the next value
-next_more : (known : Known) (first : ℕ) (before : List Entry) (e : Entry) →
+pub next_more : (known : Known) (first : ℕ) (before : List Entry) (e : Entry) →
     next_after known first (before ++ e ∷ []) ≡ (if entry_has_value known (next_after known first before) e then suc (next_after known first before) else next_after known first before)
 next_more known first [] e = refl
 next_more known first (x ∷ xs) e = next_more known (if entry_has_value known first x then suc first else first) xs e
@@ -101,7 +101,7 @@ type_of_called : (o : Option ℕ) (stated : Option ℕ) (known : Known) (n : ℕ
 type_of_called None stated known n takes = absurd takes
 type_of_called (Some ty) stated known n takes = refl
 
-value_same : (known : Known) (m : Module) → Agrees known m → (values next attributes convention ty function : ℕ) (args : List ℕ) → SoundCall m values next ty function args →
+pub value_same : (known : Known) (m : Module) → Agrees known m → (values next attributes convention ty function : ℕ) (args : List ℕ) → SoundCall m values next ty function args →
     entry_has_value known next (entry 34 (attributes ∷ convention ∷ ty ∷ function ∷ args)) ≡ has_value m (Call (absolute next function) (map (absolute next) args))
 value_same known m a values next attributes convention ty function args s =
     let v : ℕ = absolute next function in

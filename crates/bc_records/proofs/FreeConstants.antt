@@ -13,7 +13,7 @@ use Rattle.bc_records.proofs.BodiesOnce.{parts_same}
 use Rattle.bc_records.proofs.FreeSites.{FreeRecords, free_flat}
 use Rattle.bc_records.proofs.Tests.{below, unless, code_stays, Each, both_none, all_left, all_right, count_more}
 
-abbrev kinds : ℕ → List Entry → Entry → List Entry → List ℕ
+abbrev pub kinds : ℕ → List Entry → Entry → List Entry → List ℕ
 kinds n = λ before e after. constant_kinds n before e
 
 set_free : (n ty : ℕ) (before : List Entry) → ty < n → constant_kinds n before (entry 1 (ty ∷ [])) ≡ []

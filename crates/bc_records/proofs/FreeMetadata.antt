@@ -20,13 +20,13 @@ use Rattle.bc_records.proofs.FreeSites.{FreeRecords, free_flat}
 use Rattle.bc_records.proofs.Tests.{both, unless, no_kinds, text_passes, name_passes, names_pass, last_more, Each, both_none, all_left, all_right, count_more}
 
 -- the numbers and characters in records
-abbrev SoundRecord : Known → MetadataRecord → Type 0
+abbrev pub SoundRecord : Known → MetadataRecord → Type 0
 SoundRecord k (string_metadata text) = IsText text
 SoundRecord k (value_metadata ty value) = (ty < length k.types) × (IsWord ty) × (value < module_value_count k) × IsWord value
 SoundRecord k (node_metadata parts) = list_all (names_part k.metas) parts ≡ true
 SoundRecord k (named_metadata name ids) = IsText name × All (λ i. i < k.metas) ids × All IsWord ids
 
-abbrev SoundRecords : Known → List MetadataRecord → Type 0
+abbrev pub SoundRecords : Known → List MetadataRecord → Type 0
 SoundRecords k [] = Unit {0}
 SoundRecords k (r ∷ rs) = SoundRecord k r × SoundRecords k rs
 
@@ -42,10 +42,10 @@ parts_pass metas (p ∷ ps) sound range =
     (parts_pass metas ps (All-tail (λ part. IfSome part (Names metas)) (node_part p) (map node_part ps) sound) (All-tail PartInRange (node_part p) (map node_part ps) range))
 
 -- every piece of metadata and every named one is sound and in range
-abbrev SoundMetas : Known → List Meta → Type 0
+abbrev pub SoundMetas : Known → List Meta → Type 0
 SoundMetas k metas = All (IsSoundMeta (length k.types) (module_value_count k) k.metas) metas × All MetaInRange metas
 
-abbrev SoundNamed : Known → List Named → Type 0
+abbrev pub SoundNamed : Known → List Named → Type 0
 SoundNamed k named = All (λ (n : Named). All (Names k.metas) n.ids) named × All NamedInRange named
 
 metas_tail : (k : Known) (x : Meta) (xs : List Meta) → SoundMetas k (x ∷ xs) → SoundMetas k xs

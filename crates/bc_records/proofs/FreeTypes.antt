@@ -18,7 +18,7 @@ use Rattle.bc_records.proofs.FreeSites.{FreeRecords, free_flat}
 use Rattle.bc_records.proofs.Tests.{at_most, equal, both, unless, no_kinds, text_passes, word_passes, name_passes, names_pass, code_before}
 
 -- the numbers and characters in a record
-abbrev SoundRecord : ℕ → TypeRecord → Type 0
+abbrev pub SoundRecord : ℕ → TypeRecord → Type 0
 SoundRecord n (integer_type width) = IsWord width
 SoundRecord n (pointer_type to space) = (to < n) × IsWord to × IsWord space
 SoundRecord n (struct_name name) = IsText name
@@ -26,7 +26,7 @@ SoundRecord n (struct_type parts) = All (λ x. x < n) parts × All IsWord parts
 SoundRecord n (function_type result params) = (result < n) × IsWord result × All (λ x. x < n) params × All IsWord params
 SoundRecord n _ = Unit {0}
 
-abbrev SoundRecords : ℕ → List TypeRecord → Type 0
+abbrev pub SoundRecords : ℕ → List TypeRecord → Type 0
 SoundRecords n [] = Unit {0}
 SoundRecords n (r ∷ rs) = SoundRecord n r × SoundRecords n rs
 
@@ -82,7 +82,7 @@ record_free n before (function_type result params) stated sound =
     (unless (names n result && list_all (names n) params) 3
     (both (names n result) (list_all (names n) params) (name_passes n result sound.0 sound.1) (names_pass n params sound.2 sound.3)))
 
-abbrev kinds : ℕ → List Entry → Entry → List Entry → List ℕ
+abbrev pub kinds : ℕ → List Entry → Entry → List Entry → List ℕ
 kinds n = λ before e after. type_kinds n before e
 
 -- records after the number of entries

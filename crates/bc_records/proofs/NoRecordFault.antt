@@ -41,7 +41,7 @@ use Rattle.bc_records.proofs.ValueLemmas.{value_count}
 
 -- one body
 
-params_long : (known : Known) (m : Module) (a : Agrees known m) (f : Function) (operands : List ℕ) → slice_get operands 0 ≡ Some f.ty → parameters_of known operands ≡ length (parameters m f)
+pub params_long : (known : Known) (m : Module) (a : Agrees known m) (f : Function) (operands : List ℕ) → slice_get operands 0 ≡ Some f.ty → parameters_of known operands ≡ length (parameters m f)
 params_long known m a f operands head =
     ap (λ o. option_map_or (λ (s : ℕ × List ℕ). length s.1) (option_and_then (signature_at known) o) 0) head
     ∙ (ap (λ o. option_map_or (λ (s : ℕ × List ℕ). length s.1) o 0) (a.signatures f.ty) ∙ by (signature m.types f.ty))
@@ -62,7 +62,7 @@ declared_stands (declare_blocks k ∷ rs) n said = refl
 declared_stands (return_record ∷ rs) n said = declared_stands rs n said
 declared_stands (call_record a b c d e ∷ rs) n said = declared_stands rs n said
 
-values_count : (m : Module) (f : Function) (body : Body) →
+pub values_count : (m : Module) (f : Function) (body : Body) →
     length (body_values m f body) ≡ length (module_values m) + (length (parameters m f) + (length body.consts + length (filter (has_value m) (instructions body))))
 values_count m f body =
     let made = map instruction_value (filter (has_value m) (instructions body)) in

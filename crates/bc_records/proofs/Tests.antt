@@ -70,7 +70,7 @@ code_before code (x ∷ xs) e none other =
     let apart = neither (code_of x == code) (has_code code xs) none in
     ap (λ b. b || has_code code (xs ++ e ∷ [])) apart.0 ∙ code_before code xs e apart.1 other
 
-either_stays : (a b c : Bool) → (b ≡ true → c ≡ true) → (a || b) ≡ true → (a || c) ≡ true
+pub either_stays : (a b c : Bool) → (b ≡ true → c ≡ true) → (a || b) ≡ true → (a || c) ≡ true
 either_stays true b c stays h = refl
 either_stays false b c stays h = stays h
 

@@ -1,7 +1,7 @@
 -- The module that a block list says, whatever is at fault in it: numbers are taken modulo the size of their fields,
 -- what is missing is empty, and what names nothing is passed by. Of a list without a fault it is the module that the
 -- list records.
-use Rattle.std.specs.Prelude.{ℕ, zero, suc, ◌+◌, ◌-◌, ◌%◌, ◌^◌, ◌==◌, if◌then◌else◌, Option, None, Some, List, [], ◌∷◌, ◌++◌, map, length, drop, replicate, flat_map}
+use Rattle.std.specs.Prelude.{ℕ, zero, suc, ◌+◌, ◌-◌, ◌%◌, ◌^◌, ◌==◌, if◌then◌else◌, None, Some, List, [], ◌∷◌, ◌++◌, map, length, drop, replicate, flat_map}
 use Rattle.std.specs.Option.{option_map_or}
 use Rattle.ir_core.specs.declared.instruction.Inst.{Inst}
 use Rattle.ir_core.specs.declared.instruction.Inst.TheVariants.{Call, Ret}
@@ -115,8 +115,8 @@ read_instructions m next (entry code operands ∷ rest) =
     if code == 1 then read_instructions m next rest
     else if code == 10 then Ret ∷ read_instructions m next rest
     else (
-      let call : Inst = Call (absolute next (word (operand operands 3))) (map (absolute next) (words (drop 4 operands))) in
-      call ∷ read_instructions m (next_value m next call) rest
+    let call : Inst = Call (absolute next (word (operand operands 3))) (map (absolute next) (words (drop 4 operands))) in
+    call ∷ read_instructions m (next_value m next call) rest
     )
 
 -- the number of blocks that is declared first

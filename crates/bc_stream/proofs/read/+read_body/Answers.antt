@@ -1,0 +1,34 @@
+use Rattle.std.proofs.Common.{subst}
+use Rattle.std.proofs.lemmas.Result.{err_from_is_err_and}
+use Rattle.bc_stream.specs.Blocks.{parts_contents}
+use Rattle.bc_stream.specs.Pieces.{PieceAt}
+use Rattle.bc_stream.proofs.BodyLemmas.{body_whole, entry_more, block_more, block_fault}
+use Rattle.bc_stream.proofs.read.+read_body.Goals as goal
+
+pub returns-in-Leave : goal.returns-in-Leave
+returns-in-Leave t c =
+    let bytes = c.args.bytes.now in
+    let piece = subst (PieceAt bytes c.args.scope c.loop-parts.to) c.in-Leave.is c.in_ok-to.ensures in
+    body_whole bytes c.args.scope c.args.at c.loop-parts.to (record { parts = c.loop-parts.parts; to = c.in-Leave.to }) c.loop-parts.invariant piece
+
+pub loop-parts-preserved-in-Record : goal.loop-parts-preserved-in-Record
+loop-parts-preserved-in-Record t c =
+    let bytes = c.args.bytes.now in
+    let piece = subst (PieceAt bytes c.args.scope c.loop-parts.to) c.in-Record.is c.in_ok-to.ensures in
+    entry_more bytes c.args.scope c.args.at c.loop-parts.to c.in-Record.code c.in-Record.behind c.in-Record.values (parts_contents c.loop-parts.parts) (parts_contents c.push_entry.new.parts)
+    c.loop-parts.invariant piece c.in_ok-push_entry-in-Record.ensures.ok
+
+pub returns-in_err-body-in-Enter : goal.returns-in_err-body-in-Enter
+returns-in_err-body-in-Enter t c =
+    let bytes = c.args.bytes.now in
+    let piece = subst (PieceAt bytes c.args.scope c.loop-parts.to) c.in-Enter.is c.in_ok-to.ensures in
+    let p = err_from_is_err_and c.from_residual-in_err-body-in-Enter.result c.from_residual-in_err-body-in-Enter.ensures.1 in
+    rw (p.1, p.2) (block_fault bytes c.args.scope c.in-Enter.inner c.args.at c.loop-parts.to c.in-Enter.id c.in-Enter.behind (parts_contents c.loop-parts.parts) c.in_err-body-in-Enter.field-0.0
+    c.loop-parts.invariant piece c.in_err-body-in-Enter.ensures)
+
+pub loop-parts-preserved : goal.loop-parts-preserved
+loop-parts-preserved t c =
+    let bytes = c.args.bytes.now in
+    let piece = subst (PieceAt bytes c.args.scope c.loop-parts.to) c.in-Enter.is c.in_ok-to.ensures in
+    block_more bytes c.args.scope c.in-Enter.inner c.args.at c.loop-parts.to c.in-Enter.id c.in-Enter.behind c.in_ok-body-in-Enter.body (parts_contents c.loop-parts.parts) (parts_contents c.push_block.new.parts)
+    c.loop-parts.invariant piece c.in_ok-body-in-Enter.ensures c.in_ok-push_block-in-Enter.ensures.ok

@@ -56,13 +56,13 @@ def timed(words, path, size, make):
 
 
 def doubled(words, size, half, whole):
-    """The time over that of half the size. Where it misses the target both are timed again, a few times: a time that
-    something else on the machine has lengthened isn't one of the program."""
-    for _ in range(4):
+    """The time over that of half the size. Where it misses the target both are timed again, one beside the other: a
+    time that something else on the machine has lengthened isn't one of the program."""
+    for _ in range(4 * runs_for(size)):
         if whole.took <= TARGETS[DOUBLED][1] * half.took:
             break
-        half.took = min(half.took, seconds(words, half.path, runs_for(size)))
-        whole.took = min(whole.took, seconds(words, whole.path, runs_for(size)))
+        for one in (half, whole):
+            one.took = min(one.took, seconds(words, one.path, 1))
     return whole.took / half.took
 
 

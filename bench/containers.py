@@ -162,9 +162,9 @@ def container(bitcode):
     return header + parts + part(b'DXIL', program + bitcode)
 
 
-def bitcode_of(container):
-    """The bitcode of a container that `container` made."""
-    return container[128:]
+def bitcode_of(made):
+    """The bitcode of what `container` made."""
+    return made[128:]
 
 
 def filled(size, make, unit):
@@ -184,14 +184,14 @@ def many_blocks(size):
     metadata = block(METADATA, record(STRING, b'cs') + record(NODE, [1]))
 
     def name(value):
-        return block(VALUE_SYMTAB, record(ENTRY, [value, ord('f')]))
+        return record(ENTRY, [value, ord('f')])
 
-    # a block with a name takes four words whatever the number is, and its head is always the same
-    head = Bits(name(0).number & (1 << 64) - 1, 64)
+    # a block with a name takes four words whatever its number is, so that the first two, its head, are always the same
+    head = Bits(block(VALUE_SYMTAB, name(0)).number % (1 << 64), 64)
     before = constants + metadata + head
 
     def one(value):
-        return before + (record(ENTRY, [value, ord('f')]) + Bits(0, WIDTH)).aligned()
+        return before + (name(value) + Bits(0, WIDTH)).aligned()
 
     def make(count):
         tables = join(one(OTHER_FUNCTIONS + k) for k in range(count))
@@ -252,7 +252,8 @@ def long_records(size):
     wide_type = struct_type + 1
     arguments = [1, 2]
     parameters = 2 * length(arguments)
-    types = long_record(STRUCT_NAME, b'dx.', *text(b'struct')) + long_record(STRUCT_NAMED, [0], [I32, I64], length([I32, I64]))
+    parts = [I32, I64]
+    types = long_record(STRUCT_NAME, b'dx.', *text(b'struct')) + long_record(STRUCT_NAMED, [0], parts, length(parts))
     types += long_record(FUNCTION_TYPE, [0, VOID_TYPE], [I32], parameters) + record(POINTER, [wide_type, 0])
 
     # the two first constants are the last values, so that the arguments count back to them by 1 and 2
@@ -272,6 +273,7 @@ def long_records(size):
         tables = block(METADATA, metadata + last) + block(VALUE_SYMTAB, names)
         return module(types, 3, function(wide_type), tables, code)
 
+    # the number of its operands grows by up to four chunks
     return filled(size - 4, make, join(vbr(letter, 6) for letter in b'rest').count)
 
 

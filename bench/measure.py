@@ -21,7 +21,8 @@ def noted(tool, words, path, pattern):
     if shutil.which(tool[0]) is None:
         return None
     with open(path, 'rb') as given:
-        done = subprocess.run([*tool, *words], stdin=given, stdout=subprocess.DEVNULL, stderr=subprocess.PIPE, text=True)
+        done = subprocess.run([*tool, *words], stdin=given, stdout=subprocess.DEVNULL, stderr=subprocess.PIPE,
+                              text=True)
     found = re.search(pattern, done.stderr)
     return int(found.group(1)) if found else None
 

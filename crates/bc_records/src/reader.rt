@@ -45,8 +45,8 @@ fn read_list(alloc: Global, blocks: &BlockList) -> Result<Module, RecordFault>
 ///
 /// # Errors
 /// `Bad` exactly where the list records no module: the least kind of fault at the first place, in the order of the
-/// list, that has one. `Memory` where memory is refused, or where a list of the module would have more than 2147483647
-/// parts.
+/// list, that has one. `Memory` where memory is refused, where a list of the module would have more than 2147483647
+/// parts, or where a body declares more than 16777216 basic blocks.
 pub fn from_blocks(alloc: Global, blocks: &BlockList) -> Result<Module, RecordFault>
     requires few { block_count (contents_of blocks.now) < 2 ^ 32 }
     // The list records the module that is answered, or has the fault that is answered.

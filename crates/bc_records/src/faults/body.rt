@@ -18,7 +18,7 @@ fn named_value(next: u64, operand: u64) -> u64
     requires { next < 2 ^ 63 }
     ensures { result ≡ absolute next operand }
 {
-    (next + 4294967296).saturating_sub(operand) % 4294967296
+    (next + 4294967296 - operand % 4294967296) % 4294967296
 }
 
 /// Whether each argument is a word that names a value.

@@ -26,6 +26,9 @@ use std::mem;
 /// The place of the function's operand in a CALL.
 const CALLED: usize = 3;
 
+/// The greatest number of basic blocks that a body may declare: few bytes may ask for many.
+const MOST_BLOCKS: usize = 16777216;
+
 /// The value that an operand names, where the next value has the number `next` modulo 2^32.
 #[inline]
 fn value_at(next: u32, operand: u64) -> u32
@@ -176,8 +179,12 @@ fn read_blocks(
 ) -> Result<Blocks, NoMemory>
     ensures { IfOk result (λ blocks. blocks ≡ up_to (read_count (entries_in (parts_contents parts.now))) (filled_blocks (read_instructions «module».now first (entries_in (parts_contents parts.now))))) }
 {
+    let count = block_count(parts) as usize;
+    if count > MOST_BLOCKS {
+        return Err(NoMemory);
+    }
     let mut blocks = filled(alloc, module, first, parts)?;
-    pad(alloc, &mut blocks, block_count(parts) as usize)?;
+    pad(alloc, &mut blocks, count)?;
     Ok(blocks)
 }
 

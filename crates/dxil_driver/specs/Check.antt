@@ -38,7 +38,7 @@ pub record HasRecordFault (bytes : List ℕ) (kind block at : ℕ) : Type 0 wher
   pub spelled : Spelled bitcode blocks
   pub faulty : IsFault blocks kind block at
 
--- the bytes spell a module that breaks this rule, and none of a lesser number
+-- the bytes spell a module that breaks this rule, first at this spot, and none of a lesser number
 pub record HasVerdict (bytes : List ℕ) (rule : ℕ) (spot : Spot) : Type 0 where
   pub m : Module
   pub spells : Spells bytes m
@@ -85,7 +85,7 @@ GivesModule m answer = MatchResult answer (λ given. given ≡ m) (λ fault. fau
 abbrev pub NamesFault : CheckFault → Result Module CheckFault → Type 0
 NamesFault fault answer = IsErrOf answer fault ⊎ IsErrOf answer Memory
 
--- Bytes have one answer: they pass with one module, or fail for one fault.
+-- Bytes have at most one answer: they pass with one module, or fail for one fault.
 pub record HasOneAnswer : Type 0 where
   pub one_module : (bytes : List ℕ) (m n : Module) → Passes bytes m → Passes bytes n → m ≡ n
   pub one_fault : (bytes : List ℕ) (fault other : CheckFault) → Fails bytes fault → Fails bytes other → fault ≡ other

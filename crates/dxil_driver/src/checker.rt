@@ -77,7 +77,7 @@ impl From<Invalid> for CheckFault {
     }
 }
 
-/// Bytes have one answer, by the laws of the layers.
+/// Bytes have at most one answer, by the laws of the layers.
 fn one_answer()
     ensures { HasOneAnswer }
 {

@@ -103,7 +103,7 @@ fn tell<N: Sink>(notes: &mut N, status: Status, line: &[u8]) -> Status
     }
 }
 
-/// Writes the container to the output, and where that fails the line of it to the notes.
+/// Writes a result to the output, and where that fails the line of it to the notes.
 fn deliver<O: Sink, N: Sink>(output: &mut O, notes: &mut N, bytes: &[u8]) -> Status
     ensures ends { (result ≡ Status.Done) ⊎ (result ≡ Status.WriteFault) }
     ensures done { result ≡ Status.Done → Appends (O.written output.old) (O.written output.new) bytes.now

@@ -15,71 +15,80 @@ fn container(rt: &HostRuntime) -> Result<Bytes, Fail> {
     Ok(bytes)
 }
 
-/// Checks bytes, and compares what is printed.
-fn assert_prints(
-    rt: &HostRuntime,
-    bytes: &[u8],
+/// The status of a run, what the output has, and what the notes have.
+#[derive(Drop)]
+struct Run {
     status: Status,
-    output: &[u8],
-    note: &[u8],
-) -> Result<(), Fail> {
+    output: MemorySink,
+    notes: MemorySink,
+}
+
+/// Checks bytes.
+fn run_check(rt: &HostRuntime, bytes: &[u8]) -> Result<Run, Fail> {
     let mut words = Vec::new(rt.alloc());
     words.push(String::from_str(rt.alloc(), "check")?)?;
     let mut input = PlainSource::new(Bytes::from_slice(rt.alloc(), bytes)?);
-    let mut written = MemorySink::new(rt.alloc(), 64, 64, Calls::new(rt.alloc()))?;
+    let mut output = MemorySink::new(rt.alloc(), 64, 64, Calls::new(rt.alloc()))?;
     let mut notes = MemorySink::new(rt.alloc(), 64, 64, Calls::new(rt.alloc()))?;
-    let answer = tool(rt.alloc(), &words, &mut input, &mut written, &mut notes);
-    assert_eq!(rt; answer, status);
-    assert_eq!(rt; written.written(), output);
-    assert_eq!(rt; notes.written(), note);
-    Ok(())
+    let status = tool(rt.alloc(), &words, &mut input, &mut output, &mut notes);
+    Ok(Run {
+        status,
+        output,
+        notes,
+    })
+}
+
+fn assert_refused(rt: &impl Abort, run: &Run, line: &[u8]) {
+    assert_eq!(rt; run.status, Status::Refused);
+    assert_eq!(rt; run.notes.written(), line);
+    assert_eq!(rt; run.output.written().len(), 0);
 }
 
 #[test]
 fn a_compiled_container_passes(rt: HostRuntime) -> Result<(), Fail> {
     let bytes = container(&rt)?;
-    assert_prints(&rt, bytes.as_slice(), Status::Done, b"ok\n", b"")
+    let run = run_check(&rt, bytes.as_slice())?;
+    assert_eq!(rt; run.status, Status::Done);
+    assert_eq!(rt; run.output.written(), b"ok\n".as_slice());
+    assert_eq!(rt; run.notes.written().len(), 0);
+    Ok(())
 }
 
 #[test]
 fn parts_of_a_container_are_refused(rt: HostRuntime) -> Result<(), Fail> {
     let whole = container(&rt)?;
     let bytes = whole.as_slice();
-    let parts: [(&[u8], &[u8]); 3] = [
-        (b"", b"error: container 1 at 0\n"),
-        (&bytes[..31], b"error: container 1 at 31\n"),
-        (&bytes[..bytes.len() - 1], b"error: container 4 at 24\n"),
+    if bytes.len() < 132 {
+        return Err(Fail::from("a short container"));
+    }
+    let ends: [(usize, &[u8]); 3] = [
+        (0, b"error: container 1 at 0\n"),
+        (31, b"error: container 1 at 31\n"),
+        (bytes.len() - 1, b"error: container 4 at 24\n"),
     ];
-    for (part, line) in parts {
-        assert_prints(&rt, part, Status::Refused, b"", line)?;
+    for (end, line) in ends {
+        let front = bytes.get(..end).ok_or("a short container")?;
+        let run = run_check(&rt, front)?;
+        assert_refused(&rt, &run, line);
     }
     Ok(())
 }
 
 #[test]
-fn a_container_of_another_name_is_refused(rt: HostRuntime) -> Result<(), Fail> {
+fn other_names_are_refused(rt: HostRuntime) -> Result<(), Fail> {
     let whole = container(&rt)?;
-    let mut bytes = Vec::from_slice(rt.alloc(), whole.as_slice())?;
-    bytes[0] = b'C';
-    assert_prints(
-        &rt,
-        &bytes,
-        Status::Refused,
-        b"",
-        b"error: container 2 at 0\n",
-    )
-}
-
-#[test]
-fn a_bitcode_of_another_name_is_refused(rt: HostRuntime) -> Result<(), Fail> {
-    let whole = container(&rt)?;
-    let mut bytes = Vec::from_slice(rt.alloc(), whole.as_slice())?;
-    bytes[131] = 0xDF;
-    assert_prints(
-        &rt,
-        &bytes,
-        Status::Refused,
-        b"",
-        b"error: stream 1 at bit 0\n",
-    )
+    let places: [(usize, &[u8]); 2] = [
+        (0, b"error: container 2 at 0\n"),
+        (131, b"error: stream 1 at bit 0\n"),
+    ];
+    for (place, line) in places {
+        let mut bytes = Vec::from_slice(rt.alloc(), whole.as_slice())?;
+        if place >= bytes.len() {
+            return Err(Fail::from("a short container"));
+        }
+        bytes[place] ^= 1;
+        let run = run_check(&rt, &bytes)?;
+        assert_refused(&rt, &run, line);
+    }
+    Ok(())
 }

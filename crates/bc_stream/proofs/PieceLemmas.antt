@@ -320,6 +320,15 @@ outside_record bytes scope at behind code values found is read p small some none
     least_at bytes scope at behind found.to 7 (raw_record p.code p.values) is read p.reads
     (λ frames knows. entry_outside frames (place_in bytes found.to) p.code p.values (no_frames scope frames knows none) (small p.code p.holds).1 hold.1)
 
+pub entry_of : (bytes : List ℕ) (scope : Scope) (at behind to code : ℕ) (values : List ℕ) → behind ≡ at + scope.width → FixedAt bytes scope.width at 3 → layout (raw_record code values) (place_in bytes behind) (place_in bytes to) →
+    code < 2 ^ 32 → All (λ value. value < 2 ^ 64) values → scope.levels ≢ 0 → behind < to → to ≤ 8 * length bytes → EntryAt bytes scope at code values to
+entry_of bytes scope at behind to code values is read p small fit inside forward within = record {
+  good = good_at bytes scope at behind to (raw_record code values) is read p
+      (λ frames knows kind h. entry_good frames (place_in bytes to) code values kind (some_frames scope frames knows inside) small fit h);
+  forward = omega arith;
+  within = within;
+}
+
 pub good_record : (bytes : List ℕ) (scope : Scope) (at behind code : ℕ) (values : List ℕ) (found : RecordRead) → behind ≡ at + scope.width → FixedAt bytes scope.width at 3 → RecordAt bytes behind found →
     IsBelow (2 ^ 32) found.code (Some code) → found.values ≡ Some values → scope.levels ≢ 0 → EntryAt bytes scope at code values found.to
 good_record bytes scope at behind code values found is read p small some inside =
@@ -329,13 +338,8 @@ good_record bytes scope at behind code values found is read p small some inside 
     let same : layout raw (place_in bytes behind) (place_in bytes found.to) =
     subst (λ n. layout (raw_record n values) (place_in bytes behind) (place_in bytes found.to)) (sym c.0)
     (subst (λ l. layout (raw_record p.code l) (place_in bytes behind) (place_in bytes found.to)) (sym hold.0) p.reads) in
-    record {
-      good = good_at bytes scope at behind found.to raw is read same
-          (λ frames knows kind h. entry_good frames (place_in bytes found.to) code values kind (some_frames scope frames knows inside) (omega (arith, c.0, c.1))
-          (subst (All (λ value. value < 2 ^ 64)) (sym hold.0) hold.1) h);
-      forward = omega (arith, p.forward);
-      within = p.within;
-    }
+    entry_of bytes scope at behind found.to code values is read same (omega (arith, c.0, c.1))
+    (subst (All (λ value. value < 2 ^ 64)) (sym hold.0) hold.1) inside p.forward p.within
 
 -- ---- other pieces
 

@@ -3,6 +3,7 @@ pub mod BlockLemmas
 pub mod BodyLemmas
 pub mod ChunkLemmas
 pub mod CountLemmas
+pub mod FewLemmas
 pub mod PieceLemmas
 pub mod ReaderLemmas
 pub mod RecordLemmas

@@ -6,3 +6,4 @@ pub mod Pieces
 pub mod Reading
 pub mod Spelling
 pub mod Writing
+pub mod HeldValues

@@ -6,9 +6,10 @@ use Rattle.bc_stream.specs.declared.piece.HeadRead.{HeadRead}
 use Rattle.bc_stream.specs.declared.piece.Scope.{Scope}
 use Rattle.bc_stream.specs.declared.piece.Piece.{Piece}
 use Rattle.bc_stream.specs.declared.piece.Piece.TheVariants.{Leave, Enter, Record}
+use Rattle.bc_stream.specs.declared.few.Head.{Head}
 use Rattle.bc_stream.specs.Bits.{Place}
 use Rattle.bc_stream.specs.Spelling.{Raw, raw_leave, raw_enter, raw_record, layout, Frame, State, width_in, most_levels, Good, FaultHere}
-use Rattle.bc_stream.specs.Reading.{place_in, Holds}
+use Rattle.bc_stream.specs.Reading.{place_in, Holds, FixedAt, NumberAt}
 
 -- A number below a limit, or none where it isn't below.
 abbrev pub IsBelow : ℕ → Option ℕ → Option ℕ → Type 0
@@ -87,3 +88,12 @@ abbrev pub PieceAt : List ℕ → Scope → ℕ → Piece → Type 0
 PieceAt bytes scope at (Leave to) = LeaveAt bytes scope at to
 PieceAt bytes scope at (Enter id inner to) = EnterAt bytes scope at id inner to
 PieceAt bytes scope at (Record code values to) = EntryAt bytes scope at code values to
+
+-- The head of a record of few values: its abbreviation id, its code and its number of values.
+pub record HeadOfFew (bytes : List ℕ) (width : ℕ) (at : ℕ) (head : Head) : Type 0 where
+  pub behind : ℕ
+  pub id : FixedAt bytes width at 3
+  pub code : NumberAt bytes 5 (at + width) (record { value = Some head.code; to = behind })
+  pub count : NumberAt bytes 5 behind (record { value = Some head.count; to = head.to })
+  pub small : head.code < 2 ^ 32
+  pub few : head.count ≤ 3

@@ -3,7 +3,8 @@
 ghost use Rattle.std.specs.Prelude.{◌≡◌, OnErr, OnOk};
 ghost use Rattle.bc_stream.specs.Blocks.{a_block, a_record, append, contents_of, no_more, parts_contents};
 
-use crate::block::{BlockList, BlockTree, Entry, Part, Parts, Values};
+use crate::block::{BlockList, BlockTree, Entry, Part, Parts};
+use crate::values::Values;
 use base_core::NoMemory;
 use sqlite_items::Items;
 use std::alloc::Global;

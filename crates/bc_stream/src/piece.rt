@@ -5,13 +5,13 @@ ghost use Rattle.bc_stream.specs.Spelling.{most_levels};
 ghost use Rattle.bc_stream.specs.Reading.{FixedAt};
 ghost use Rattle.bc_stream.specs.Pieces.{FaultAt, HasFault, HeadAt, IsBelow, NoHead, PieceAt};
 
-use crate::block::Values;
 use crate::fault::{
     END_OF_BYTES, NOT_BUILT, OUTSIDE_BLOCKS, StreamFault, TOO_DEEP, TOO_LARGE, UNDEFINED_ID,
     WRONG_LENGTH, fault,
 };
 use crate::reader::{align, read_fixed, read_number};
 use crate::record::{RecordRead, read_record};
+use crate::values::Values;
 use std::alloc::Global;
 
 /// The abbreviation id of the end of a block.

@@ -14,7 +14,9 @@ ghost use Rattle.bc_stream.specs.Bodies.{BlockAt, BodyAt, FaultFrom};
 use crate::block::{BlockList, Parts};
 use crate::build::{no_blocks, no_parts, push_block, push_entry, push_outermost};
 use crate::fault::{OUTSIDE_BLOCKS, StreamFault, WRONG_MAGIC, fault};
+use crate::few::read_few;
 use crate::piece::{Piece, Scope, next_piece};
+use crate::values::Values;
 use std::alloc::Global;
 
 /// "BC" and 0xC0DE, with which a stream of blocks begins.
@@ -68,6 +70,12 @@ fn read_body(alloc: Global, bytes: &[u8], scope: Scope, at: usize) -> Result<Bod
     let mut parts = no_parts(alloc);
     let mut to = at;
     loop {
+        if let Some(few) = read_few(bytes, scope, to) {
+            let values = Values::in_place(few.count as u32, few.places);
+            push_entry(&mut parts, few.code, values)?;
+            to = few.to;
+            continue;
+        }
         match next_piece(alloc, bytes, scope, to)? {
             Piece::Leave { to } => return Ok(Body { parts, to }),
             Piece::Record {

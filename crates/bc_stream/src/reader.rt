@@ -2,7 +2,7 @@
 //!
 //! A place is a number of bits from the first of all.
 
-ghost use Rattle.std.specs.Prelude.{◌≡◌, ◌+◌, ◌*◌, ◌-◌, ◌/◌, ◌%◌, ◌^◌, ◌<◌, ◌≤◌, min, length, IfSome, MatchOption, OnSome};
+ghost use Rattle.std.specs.Prelude.{◌≡◌, ◌+◌, ◌*◌, ◌-◌, ◌/◌, ◌%◌, ◌^◌, ◌<◌, ◌≤◌, min, length, Some, IfSome, MatchOption, OnSome};
 ghost use Rattle.bc_stream.specs.Bits.{Aligned, Chunked, Fixed, Place};
 ghost use Rattle.bc_stream.specs.Reading.{AlignedAt, FixedAt, IsFront, IsWindow, NoNumber, NumberAt, place_in};
 
@@ -26,6 +26,14 @@ pub(crate) struct Number {
     pub(crate) to: usize,
 }
 
+/// A number of one or two chunks that was read from a window.
+#[derive(Clone, Copy, Debug)]
+pub(crate) struct TwoChunks {
+    pub(crate) value: u64,
+    /// How many bits of the window are before its end.
+    pub(crate) used: u32,
+}
+
 /// How many bits there are from a place on.
 #[inline(always)]
 pub(crate) fn bits_left(bytes: &[u8], at: usize) -> usize
@@ -38,7 +46,7 @@ pub(crate) fn bits_left(bytes: &[u8], at: usize) -> usize
 
 /// The lowest bits of a word.
 #[inline(always)]
-fn lowest(width: u32, word: u64) -> u64
+pub(crate) fn lowest(width: u32, word: u64) -> u64
     requires { width < 64 }
     ensures { result ≡ word % 2 ^ width }
 {
@@ -110,7 +118,7 @@ pub(crate) fn read_fixed(bytes: &[u8], width: u32, at: usize) -> Option<u64>
 
 /// The bits from a place on, the first of them lowest, or none where fewer than eight bytes are left.
 #[inline(always)]
-fn whole_window(bytes: &[u8], at: usize) -> Option<u64>
+pub(crate) fn whole_window(bytes: &[u8], at: usize) -> Option<u64>
     requires short { length bytes.now < 2 ^ 32 }
     requires within { at ≤ 8 * length bytes.now }
     ensures room { OnSome result (at + 57 ≤ 8 * length bytes.now) }
@@ -121,6 +129,42 @@ fn whole_window(bytes: &[u8], at: usize) -> Option<u64>
         return None;
     }
     Some(LittleEndian::read_u64(rest) >> (at % 8))
+}
+
+/// The number in one or two chunks that a window has whole from a bit on, if it has.
+#[inline(always)]
+pub(crate) fn read_two(
+    bytes: &[u8],
+    unit: u32,
+    at: usize,
+    bits: u64,
+    used: u32,
+) -> Option<TwoChunks>
+    requires short { length bytes.now < 2 ^ 32 }
+    requires limit { unit < 16 }
+    requires room { at + 57 ≤ 8 * length bytes.now }
+    requires bits { IsWindow bytes.now at bits }
+    requires inside { used + 2 * (unit + 1) ≤ 57 }
+    ensures number { IfSome result (λ found. NumberAt bytes.now unit (at + used) (record { value = Some found.value; to = at + found.used })) }
+    ensures fits { IfSome result (λ found. found.value < 2 ^ 32) }
+    ensures used { IfSome result (λ found. found.used ≤ used + 2 * (unit + 1)) }
+{
+    let width = unit + 1;
+    let first = lowest(width, bits >> used);
+    if first < 1 << unit {
+        return Some(TwoChunks {
+            value: first,
+            used: used + width,
+        });
+    }
+    let second = lowest(width, bits >> (used + width));
+    if second < 1 << unit {
+        return Some(TwoChunks {
+            value: lowest(unit, first) + (second << unit),
+            used: used + 2 * width,
+        });
+    }
+    None
 }
 
 /// The number in chunks that a window has whole, if it has.

@@ -3,9 +3,9 @@
 ghost use Rattle.std.specs.Prelude.{◌≡◌, ◌+◌, ◌*◌, ◌-◌, ◌/◌, ◌^◌, ◌<◌, ◌≤◌, length, IfOk, MatchOption};
 ghost use Rattle.bc_stream.specs.Reading.{CountWithin, NoRecord, NoValues, RecordAt, SkippedAt, ValuesAt};
 
-use crate::block::Values;
 use crate::reader::{bits_left, read_number};
-use base_core::{NoMemory, Sequence};
+use crate::values::{MOST_IN_PLACE, Values};
+use base_core::NoMemory;
 use std::alloc::Global;
 
 /// The bits in a chunk of a number of a record, less its flag.
@@ -96,7 +96,7 @@ fn read_values(
         list.push(value)?;
         to = number.to;
     }
-    let list = Sequence::from_vec(list)?;
+    let list = Values::from_vec(list)?;
     Ok(Some(ValuesRead {
         list: Some(list),
         to,

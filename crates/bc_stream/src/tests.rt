@@ -4,8 +4,8 @@ ghost use Rattle.std.specs.Prelude.{◌≡◌, ◌^◌, ◌<◌, [], ◌∷◌, 
 ghost use Rattle.bc_stream.specs.Blocks.{a_block, a_record, contents_of, no_more};
 
 use crate::{
-    BlockList, Part, StreamFault, no_blocks, no_parts, push_entry, push_outermost, read_back,
-    read_blocks, write_blocks,
+    BlockList, Part, StreamFault, Values, no_blocks, no_parts, push_entry, push_outermost,
+    read_back, read_blocks, write_blocks,
 };
 use base_core::{NoMemory, Sequence};
 use std::alloc::Global;
@@ -23,7 +23,7 @@ fn version_alone(alloc: Global) -> Result<BlockList, NoMemory>
     ensures { IfOk result (λ blocks. contents_of blocks ≡ a_block 8 (a_record 1 (1 ∷ []) no_more) no_more) }
 {
     let mut parts = no_parts(alloc);
-    let values = Sequence::from_slice(alloc, &[1])?;
+    let values = Values::from_slice(alloc, &[1])?;
     push_entry(&mut parts, 1, values)?;
     let mut blocks = no_blocks(alloc);
     push_outermost(&mut blocks, 8, parts)?;

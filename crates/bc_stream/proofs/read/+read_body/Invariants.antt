@@ -6,8 +6,8 @@ use Rattle.bc_stream.proofs.read.+read_body.Given as goal
 abbrev pub decreases-read_body : goal.decreases-read_body
 decreases-read_body l = 17 - l.scope.levels
 
-abbrev pub invariant-loop-parts : goal.invariant-loop-parts
-invariant-loop-parts l = PartsAt l.bytes l.scope l.fn.at (parts_contents l.parts) l.to
+abbrev pub invariant-loop-few : goal.invariant-loop-few
+invariant-loop-few l = PartsAt l.bytes l.scope l.fn.at (parts_contents l.parts) l.to
 
-abbrev pub decreases-loop-parts : goal.decreases-loop-parts
-decreases-loop-parts l = 8 * length l.bytes - l.to
+abbrev pub decreases-loop-few : goal.decreases-loop-few
+decreases-loop-few l = 8 * length l.bytes - l.to

@@ -10,7 +10,7 @@ use sqlite_items::Items;
 use std::alloc::Global;
 
 /// The greatest number of parts of a block, and of outermost blocks.
-const MOST_PARTS: usize = 2147483647;
+pub(crate) const MOST_PARTS: usize = 2147483647;
 
 /// The parts of an empty block, which take no memory.
 pub fn no_parts(alloc: Global) -> Parts

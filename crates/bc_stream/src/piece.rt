@@ -230,6 +230,7 @@ fn define(bytes: &[u8], scope: Scope, at: usize) -> StreamFault
 ///
 /// # Errors
 /// The least fault of the piece, or `Memory` where memory is refused.
+#[inline(always)]
 pub(crate) fn next_piece(
     alloc: Global,
     bytes: &[u8],

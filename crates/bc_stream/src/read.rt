@@ -1,6 +1,6 @@
 //! Blocks that bytes spell, read piece by piece.
 
-ghost use Rattle.std.specs.Prelude.{◌≡◌, ◌≢◌, ◌+◌, ◌*◌, ◌-◌, ◌/◌, ◌%◌, ◌^◌, ◌<◌, ◌≤◌, ◌⊎◌, ◌↔◌, [], ◌∷◌, ℕ, List, length, take, drop, IsTrue, IfOk, MatchResult};
+ghost use Rattle.std.specs.Prelude.{◌≡◌, ◌≢◌, ◌+◌, ◌*◌, ◌-◌, ◌/◌, ◌%◌, ◌^◌, ◌<◌, ◌≤◌, ◌⊎◌, ◌↔◌, [], ◌∷◌, ◌++◌, ℕ, List, length, take, drop, IsTrue, IfOk, OnOk, MatchResult};
 ghost use Rattle.std.specs.Bool.{OnTrue, OnFalse};
 ghost use Rattle.std.specs.List.{All};
 ghost use Rattle.bc_stream.specs.declared.fault.StreamFault.TheVariants.{Bad, Memory};
@@ -11,12 +11,14 @@ ghost use Rattle.bc_stream.specs.Faults.{IsBad};
 ghost use Rattle.bc_stream.specs.Pieces.{state_in};
 ghost use Rattle.bc_stream.specs.Bodies.{BlockAt, BodyAt, FaultFrom};
 
-use crate::block::{BlockList, Parts};
-use crate::build::{no_blocks, no_parts, push_block, push_entry, push_outermost};
+use crate::block::{BlockList, BlockTree, Entry, Part, Parts};
+use crate::build::{MOST_PARTS, no_blocks, push_outermost};
 use crate::fault::{OUTSIDE_BLOCKS, StreamFault, WRONG_MAGIC, fault};
 use crate::few::read_few;
 use crate::piece::{Piece, Scope, next_piece};
 use crate::values::Values;
+use base_core::NoMemory;
+use sqlite_items::Items;
 use std::alloc::Global;
 
 /// "BC" and 0xC0DE, with which a stream of blocks begins.
@@ -55,6 +57,24 @@ fn is_zero_from(bytes: &[u8], at: usize) -> bool
     is_zero(&bytes[at / 8..])
 }
 
+/// Adds a part at the end.
+///
+/// # Errors
+/// `NoMemory` where memory is refused, or where there are 2147483647 of them.
+#[inline(always)]
+fn push_part(parts: &mut Vec<Part>, part: Part) -> Result<(), NoMemory>
+    ensures { OnOk result (parts.new.items ≡ parts.old.items ++ part ∷ []) }
+{
+    if parts.len() >= MOST_PARTS {
+        return Err(NoMemory);
+    }
+    if parts.len() == parts.capacity() {
+        parts.reserve(1)?;
+    }
+    parts.push_reserved(part);
+    Ok(())
+}
+
 /// Reads the body of a block up to its end. It calls itself once for each of the levels, of which there are at most 16.
 ///
 /// # Errors
@@ -67,23 +87,27 @@ fn read_body(alloc: Global, bytes: &[u8], scope: Scope, at: usize) -> Result<Bod
     requires within { at ≤ 8 * length bytes.now }
     ensures { MatchResult result (BodyAt bytes.now scope at) (FaultFrom bytes.now scope at) }
 {
-    let mut parts = no_parts(alloc);
+    let mut parts = Vec::new(alloc);
     let mut to = at;
     loop {
         if let Some(few) = read_few(bytes, scope, to) {
             let values = Values::in_place(few.count as u32, few.places);
-            push_entry(&mut parts, few.code, values)?;
+            let code = few.code;
+            push_part(&mut parts, Part::Entry(Entry { code, values }))?;
             to = few.to;
             continue;
         }
         match next_piece(alloc, bytes, scope, to)? {
-            Piece::Leave { to } => return Ok(Body { parts, to }),
+            Piece::Leave { to } => {
+                let parts = Items::from_vec(parts);
+                return Ok(Body { parts, to });
+            }
             Piece::Record {
                 code,
                 values,
                 to: behind,
             } => {
-                push_entry(&mut parts, code, values)?;
+                push_part(&mut parts, Part::Entry(Entry { code, values }))?;
                 to = behind;
             }
             Piece::Enter {
@@ -92,7 +116,13 @@ fn read_body(alloc: Global, bytes: &[u8], scope: Scope, at: usize) -> Result<Bod
                 to: behind,
             } => {
                 let body = read_body(alloc, bytes, inner, behind)?;
-                push_block(&mut parts, id, body.parts)?;
+                push_part(
+                    &mut parts,
+                    Part::Block(BlockTree {
+                        id,
+                        parts: body.parts,
+                    }),
+                )?;
                 to = body.to;
             }
         }

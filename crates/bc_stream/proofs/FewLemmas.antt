@@ -1,12 +1,10 @@
 -- Records of few values.
-use Rattle.std.proofs.Common.{◌≡◌, ℕ, ◌+◌, ◌*◌, ◌^◌, ◌<◌, ◌≤◌, ◌≢◌, List, [], ◌∷◌, length, take, Some, refl, sym, subst, arith}
+use Rattle.std.proofs.Common.{ℕ, ◌+◌, ◌*◌, ◌^◌, ◌<◌, ◌≤◌, List, [], length, refl, sym, subst, arith}
 use Rattle.std.proofs.lemmas.List.Elements.{All-nil}
 use Rattle.bc_stream.specs.declared.few.Head.{Head}
 use Rattle.bc_stream.specs.declared.piece.Scope.{Scope}
-use Rattle.bc_stream.specs.declared.reader.Number.{Number}
-use Rattle.bc_stream.specs.Bits.{Vbr, Vbrs}
-use Rattle.bc_stream.specs.Spelling.{raw_record, layout}
-use Rattle.bc_stream.specs.Reading.{place_in, FixedAt, NumberAt, ListAt}
+use Rattle.bc_stream.specs.Bits.{Vbr}
+use Rattle.bc_stream.specs.Reading.{place_in, ListAt}
 use Rattle.bc_stream.specs.Pieces.{EntryAt, HeadOfFew}
 use Rattle.bc_stream.proofs.PieceLemmas.{entry_of}
 

@@ -1,4 +1,4 @@
-use Rattle.std.proofs.Common.{◌+◌, ◌≡◌, ◌∙◌, arith, refl, subst, take, length}
+use Rattle.std.proofs.Common.{◌+◌, ◌≡◌, ◌∙◌, arith, refl, subst, take}
 use Rattle.std.proofs.lemmas.Grind.{take-set_at}
 use Rattle.std.proofs.lemmas.List.{length-set}
 use Rattle.std.proofs.Math.ListN.{set}

@@ -1,4 +1,4 @@
-use Rattle.std.proofs.Common.{◌≡◌, ◌+◌, ◌*◌, ◌<◌, ◌≤◌, ◌^◌, refl, subst, arith}
+use Rattle.std.proofs.Common.{◌+◌, subst, arith}
 use Rattle.bc_stream.specs.Reading.{FixedAt}
 use Rattle.bc_stream.proofs.ReaderLemmas.{fixed_of, fixed_behind}
 use Rattle.bc_stream.proofs.ChunkLemmas.{only_chunk}

@@ -104,6 +104,7 @@ fn in_limit(width: Option<u64>) -> Option<u32>
 }
 
 /// Reads the head of a block behind its abbreviation id, or none where the bytes end before its end.
+#[inline(always)]
 fn read_head(bytes: &[u8], at: usize) -> Option<HeadRead>
     requires short { length bytes.now < 2 ^ 32 }
     requires within { at ≤ 8 * length bytes.now }
@@ -130,6 +131,7 @@ fn read_head(bytes: &[u8], at: usize) -> Option<HeadRead>
 }
 
 /// The end of a block that begins at `at`, and is read from `behind` on.
+#[inline(always)]
 fn leave(bytes: &[u8], scope: Scope, at: usize, behind: usize) -> Result<Piece, StreamFault>
     requires short { length bytes.now < 2 ^ 32 }
     requires levels { scope.levels ≤ most_levels }
@@ -150,6 +152,7 @@ fn leave(bytes: &[u8], scope: Scope, at: usize, behind: usize) -> Result<Piece, 
 }
 
 /// The head of a block that begins at `at`, and is read from `behind` on.
+#[inline(always)]
 fn enter(bytes: &[u8], scope: Scope, at: usize, behind: usize) -> Result<Piece, StreamFault>
     requires short { length bytes.now < 2 ^ 32 }
     requires levels { scope.levels ≤ most_levels }

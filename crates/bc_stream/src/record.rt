@@ -93,7 +93,7 @@ fn read_values(
         let Some(value) = number.value else {
             return Ok(skip_rest(bytes, count - index - 1, number.to));
         };
-        list.push(value)?;
+        list.push_reserved(value);
         to = number.to;
     }
     let list = Values::from_vec(list)?;

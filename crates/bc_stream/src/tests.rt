@@ -90,6 +90,7 @@ fn names_the_fault(rt: HostRuntime) {
     // a block of abbreviations, and a block with ids of 65 bits
     let mut bytes = VERSION_ALONE;
     bytes[4..8].copy_from_slice(&[0x01, 0x08, 0, 0]);
+    bytes[12..].copy_from_slice(&[0x86, 0, 0, 0]);
     assert_eq!(rt; fault(&rt, &bytes), Some((10, 32)));
     bytes[4..8].copy_from_slice(&[0x21, 0x24, 0x06, 0]);
     assert_eq!(rt; fault(&rt, &bytes), Some((4, 32)));

@@ -2,7 +2,7 @@
 import shutil
 from dataclasses import dataclass, field
 
-from containers import SHAPES, bitcode_of
+from containers import DENSE_SHAPES, SHAPES, bitcode_of
 from measure import instructions, memory_ratio, peak, seconds, shown
 
 SIZES = [1024 << doubling for doubling in range(17)]
@@ -125,6 +125,17 @@ def judged(values):
     return all_met
 
 
+def show_dense(words, idle, folder):
+    """Prints the rows of the denser shapes, which have no target: each record costs more than its few bytes."""
+    print(f'\n{"denser, 4 MiB":>14} {"ms":>9} {"instr/byte":>10} {"memory/size":>11}')
+    for shape, make in DENSE_SHAPES.items():
+        one = timed(words, folder / f'{shape}.dxbc', COUNTED, make)
+        count = instructions(words, one.path)
+        print(f'{shape:>14} {1000 * one.took:>9.2f} {shown(None if count is None else count / one.bitcode, "{:.0f}"):>10}'
+              f' {shown(memory_ratio(words, one.path, idle), "{:.1f}"):>11}')
+        one.path.unlink()
+
+
 def show(program, folder):
     """Prints the tables of `check`. Whether each target is met."""
     words = [program, 'check']
@@ -140,4 +151,5 @@ def show(program, folder):
     for shape, reader, took, counted in lines:
         print(f'{shape:>8} {reader:<24} {shown(None if took is None else 1000 * took, "{:.2f}"):>9}'
               f' {shown(counted, "{:.0f}"):>10}')
+    show_dense(words, idle, folder)
     return judged(values)

@@ -1,19 +1,22 @@
 #!/usr/bin/env python3
 """Containers of a wished size, each with a sound module, to measure how fast they are read.
 
-    bench/containers.py blocks|records|long BYTES > FILE
+    bench/containers.py blocks|records|long|dense-blocks|dense-records BYTES > FILE
 
 The container has at most so many bytes, and few less. Its module has one function with a body, no abbreviations, and
-one of three shapes:
+one of these shapes:
 
-blocks    very many blocks CONSTANTS, METADATA and VALUE_SYMTAB of two or three records each
-records   few blocks with very many small records: types, functions, constants, metadata, names and calls
-long      few records with very many operands: strings, nodes, names, a struct, and a call with its function type
+blocks         very many blocks CONSTANTS, METADATA and VALUE_SYMTAB, with records as a compiler writes them
+records        few blocks with very many such records: types, functions, constants, metadata, names and calls
+long           few records with very many operands: strings, nodes, names, a struct, and a call with its function type
+dense-blocks   as blocks, with one to three of the shortest records in each
+dense-records  as records, with the shortest records
 
 Bits, blocks and records are those of the LLVM Bitcode File Format, the container is that of LLVM's "DirectX
 Container". `docs/records.md` has the table of the records.
 """
 import functools, struct, sys
+from dataclasses import dataclass
 from itertools import zip_longest
 
 # the ids of blocks
@@ -108,18 +111,23 @@ def block(block_id, inner, before=Bits(), outer_width=WIDTH):
 # ---- the module around the shapes
 
 # The first types of each module: void, two integers, and three functions with the pointers to them.
-VOID_TYPE, I32, I64, MAIN_TYPE, MAIN_POINTER, SINK_TYPE, SINK_POINTER, STEP_TYPE, STEP_POINTER = range(9)
-FIRST_TYPES = [
-    record(VOID),
-    record(INTEGER_TYPE, [32]),
-    record(INTEGER_TYPE, [64]),
-    record(FUNCTION_TYPE, [0, VOID_TYPE]),
-    record(POINTER, [MAIN_TYPE, 0]),
-    record(FUNCTION_TYPE, [0, VOID_TYPE, I32]),
-    record(POINTER, [SINK_TYPE, 0]),
-    record(FUNCTION_TYPE, [0, I32, I32]),
-    record(POINTER, [STEP_TYPE, 0]),
-]
+VOID_TYPE, I32, I64, MAIN_TYPE, MAIN_POINTER, SINK_TYPE, SINK_POINTER, STEP_TYPE, STEP_POINTER, OTHER_TYPES = range(10)
+
+
+def first_types(parameters):
+    """The first types, where the second function has so many parameters."""
+    return [
+        record(VOID),
+        record(INTEGER_TYPE, [32]),
+        record(INTEGER_TYPE, [64]),
+        record(FUNCTION_TYPE, [0, VOID_TYPE]),
+        record(POINTER, [MAIN_TYPE, 0]),
+        record(FUNCTION_TYPE, [0, VOID_TYPE] + parameters * [I32]),
+        record(POINTER, [SINK_TYPE, 0]),
+        record(FUNCTION_TYPE, [0, I32, I32]),
+        record(POINTER, [STEP_TYPE, 0]),
+    ]
+
 
 # The first functions of each module: the one with the body, and two that it may call.
 MAIN, SINK, STEP, OTHER_FUNCTIONS = range(4)
@@ -141,9 +149,9 @@ def call(type_number, called, next_value, arguments):
     return record(CALL, [0, 1 << 15, type_number, next_value - called] + [next_value - value for value in arguments])
 
 
-def module(more_types=Bits(), more_types_count=0, functions=Bits(), tables=Bits(), code=Bits()):
+def module(more_types=Bits(), more_types_count=0, functions=Bits(), tables=Bits(), code=Bits(), parameters=1):
     """The bitcode of a module that begins as each one does. `tables` are whole blocks, `code` stands before the RET."""
-    types = record(NUMENTRY, [len(FIRST_TYPES) + more_types_count]) + join(FIRST_TYPES) + more_types
+    types = record(NUMENTRY, [OTHER_TYPES + more_types_count]) + join(first_types(parameters)) + more_types
     inner = block(TYPE_NEW, types, before=record(VERSION, [1]))
     inner = inner + record(TRIPLE, b'dxil-ms-dx') + record(DATALAYOUT, LAYOUT) + FIRST_FUNCTIONS + functions
     inner = block(CONSTANTS, FIRST_CONSTANTS, before=inner) + tables
@@ -177,16 +185,44 @@ def filled(size, make, unit):
 
 # ---- the shapes
 
-def many_blocks(size):
+@dataclass(frozen=True)
+class Style:
+    """How large the records are: what stands in a block of constants, after the type that it sets, and in a group of
+    metadata, whose node to name has a number; what a name is, and how many parameters a called function has."""
+    integers: tuple
+    strings: tuple
+    node: tuple
+    named: int
+    metadata_name: bytes
+    name: bytes
+    parameters: int
+
+
+# the numbers, texts and calls of a kernel that stores into a buffer
+COMPILED = Style(integers=(8, 130, 8589934590, 4660, 131072, 4026531842, 611, 2147483648),
+                 strings=(b'dx.version', b'main'), node=(1, 2, 0, 4), named=3,
+                 metadata_name=b'dx.resources', name=b'dx.op.bufferLoad.i32', parameters=9)
+DENSE = Style(integers=(6,), strings=(b'cs',), node=(1, 2, 0), named=2, metadata_name=b'dx.n', name=b'f', parameters=1)
+
+
+def constants_of(style):
+    return join([record(SETTYPE, [I32])] + [record(INTEGER, [number]) for number in style.integers] + [record(NULL)])
+
+
+def strings_of(style):
+    return join(record(STRING, text) for text in style.strings)
+
+
+def many_blocks(size, style):
     """For each function that is added, a block of constants, one of metadata, and one with its name."""
     one_function = function(SINK_TYPE)
-    constants = block(CONSTANTS, record(SETTYPE, [I32]) + record(INTEGER, [6]) + record(NULL))
-    metadata = block(METADATA, record(STRING, b'cs') + record(NODE, [1]))
+    constants = block(CONSTANTS, constants_of(style))
+    metadata = block(METADATA, strings_of(style) + record(NODE, [1]))
 
     def name(value):
-        return record(ENTRY, [value, ord('f')])
+        return record(ENTRY, [value, *style.name])
 
-    # a block with a name takes four words whatever its number is, so that the first two, its head, are always the same
+    # a block with a name takes as many words whatever its number is, so that the first two, its head, are always the same
     head = Bits(block(VALUE_SYMTAB, name(0)).number % (1 << 64), 64)
     before = constants + metadata + head
 
@@ -195,44 +231,41 @@ def many_blocks(size):
 
     def make(count):
         tables = join(one(OTHER_FUNCTIONS + k) for k in range(count))
-        return module(functions=one_function * count, tables=tables)
+        return module(functions=one_function * count, tables=tables, parameters=style.parameters)
 
     return filled(size, make, one_function.count + one(0).count)
 
 
-def many_records(size):
+def many_records(size, style):
     """An eighth for types, functions and their names, a quarter for constants, a quarter for calls, and the rest for
     metadata."""
     bits = max(8 * size - 8192, 0)
 
     # types, with all pointers behind all functions, and functions of these types
-    added = bits // 8 // 360
-    first_type = len(FIRST_TYPES)
+    added = bits // 8 // (360 + 12 * len(style.name))
     types = record(FUNCTION_TYPE, [0, VOID_TYPE, I32, I64]) * added
-    types += join(record(POINTER, [first_type + k, 0]) for k in range(added))
-    functions = join(function(first_type + k) for k in range(added))
-    names = join(record(ENTRY, [OTHER_FUNCTIONS + k, *b'f%x' % k]) for k in range(added))
+    types += join(record(POINTER, [OTHER_TYPES + k, 0]) for k in range(added))
+    functions = join(function(OTHER_TYPES + k) for k in range(added))
+    names = join(record(ENTRY, [OTHER_FUNCTIONS + k, *style.name, *b'%x' % k]) for k in range(added))
 
     # constants, which follow the functions and the first constants
-    group = [record(SETTYPE, [I32]), record(INTEGER, [6]), record(INTEGER, [4660]), record(NULL),
-             record(SETTYPE, [I64]), record(INTEGER, [87]), record(UNDEF)]
-    constants_group = join(group)
-    groups = bits // 4 // constants_group.count
+    group = constants_of(style) + record(SETTYPE, [I64]) + record(INTEGER, [87]) + record(UNDEF)
+    groups = bits // 4 // group.count
     first_constant = OTHER_FUNCTIONS + added
-    values = first_constant + FIRST_CONSTANTS_COUNT + 5 * groups
+    values = first_constant + FIRST_CONSTANTS_COUNT + (len(style.integers) + 3) * groups
 
     # calls without a value, which are all alike, and calls with one, each of which takes the last value
-    plain = call(SINK_TYPE, SINK, values, [first_constant])
+    plain = call(SINK_TYPE, SINK, values, style.parameters * [first_constant])
     code = plain * (bits // 8 // plain.count)
     steps = bits // 8 // call(STEP_TYPE, STEP, values + 1, [values]).count
     code += join(call(STEP_TYPE, STEP, values + k, [values + k - 1 if k else first_constant]) for k in range(steps))
 
-    metadata_group = join([record(STRING, b'cs'), record(VALUE, [I32, first_constant]), record(NODE, [1, 2, 0]),
-                           record(NODE), record(NAME, b'dx.n'), record(NAMED_NODE, [2])])
+    metadata_group = join([strings_of(style), record(VALUE, [I32, first_constant]), record(NODE, style.node), record(NODE),
+                           record(NAME, style.metadata_name), record(NAMED_NODE, [style.named])])
 
     def make(count):
-        tables = block(CONSTANTS, constants_group * groups) + block(METADATA, metadata_group * count)
-        return module(types, 2 * added, functions, tables + block(VALUE_SYMTAB, names), code)
+        tables = block(CONSTANTS, group * groups) + block(METADATA, metadata_group * count)
+        return module(types, 2 * added, functions, tables + block(VALUE_SYMTAB, names), code, style.parameters)
 
     return filled(size, make, metadata_group.count)
 
@@ -248,7 +281,7 @@ def long_records(size):
     def text(letters):
         return letters, length(letters)
 
-    struct_type = len(FIRST_TYPES)
+    struct_type = OTHER_TYPES
     wide_type = struct_type + 1
     arguments = [1, 2]
     parameters = 2 * length(arguments)
@@ -277,13 +310,18 @@ def long_records(size):
     return filled(size - 4, make, join(vbr(letter, 6) for letter in b'rest').count)
 
 
-SHAPES = {'blocks': many_blocks, 'records': many_records, 'long': long_records}
+# the shapes that have targets, and denser ones
+SHAPES = {'blocks': lambda size: many_blocks(size, COMPILED), 'records': lambda size: many_records(size, COMPILED),
+          'long': long_records}
+DENSE_SHAPES = {'dense-blocks': lambda size: many_blocks(size, DENSE),
+                'dense-records': lambda size: many_records(size, DENSE)}
+ALL_SHAPES = SHAPES | DENSE_SHAPES
 
 
 def main():
-    if len(sys.argv) != 3 or sys.argv[1] not in SHAPES or not sys.argv[2].isdecimal():
-        sys.exit(f'usage: {sys.argv[0]} {"|".join(SHAPES)} BYTES > FILE')
-    sys.stdout.buffer.write(SHAPES[sys.argv[1]](int(sys.argv[2])))
+    if len(sys.argv) != 3 or sys.argv[1] not in ALL_SHAPES or not sys.argv[2].isdecimal():
+        sys.exit(f'usage: {sys.argv[0]} {"|".join(ALL_SHAPES)} BYTES > FILE')
+    sys.stdout.buffer.write(ALL_SHAPES[sys.argv[1]](int(sys.argv[2])))
 
 
 if __name__ == '__main__':

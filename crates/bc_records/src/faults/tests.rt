@@ -9,8 +9,10 @@ use crate::codes::{
     TYPES_BLOCK, VERSION,
 };
 use crate::faults::{Fault, record_fault};
-use base_core::{NoMemory, Sequence};
-use bc_stream::{BlockList, Parts, no_blocks, no_parts, push_block, push_entry, push_outermost};
+use base_core::NoMemory;
+use bc_stream::{
+    BlockList, Parts, Values, no_blocks, no_parts, push_block, push_entry, push_outermost,
+};
 use std::alloc::Global;
 
 /// A table of types that says to have so many entries, and has none.
@@ -21,7 +23,7 @@ fn type_table(alloc: Global, entries: u64) -> Result<Parts, NoMemory>
     push_entry(
         &mut parts,
         TYPE_NUMENTRY,
-        Sequence::from_slice(alloc, &[entries])?,
+        Values::from_slice(alloc, &[entries])?,
     )?;
     Ok(parts)
 }
@@ -31,12 +33,8 @@ fn metadata(alloc: Global) -> Result<Parts, NoMemory>
     ensures { IfOk result (λ parts. parts_contents parts ≡ a_record 4 [] (a_record 3 (9 ∷ []) no_more)) }
 {
     let mut parts = no_parts(alloc);
-    push_entry(&mut parts, METADATA_NAME, Sequence::new(alloc))?;
-    push_entry(
-        &mut parts,
-        METADATA_NODE,
-        Sequence::from_slice(alloc, &[9])?,
-    )?;
+    push_entry(&mut parts, METADATA_NAME, Values::from_slice(alloc, &[])?)?;
+    push_entry(&mut parts, METADATA_NODE, Values::from_slice(alloc, &[9])?)?;
     Ok(parts)
 }
 
@@ -45,9 +43,9 @@ fn module_records(alloc: Global) -> Result<Parts, NoMemory>
     ensures { IfOk result (λ parts. parts_contents parts ≡ a_record 1 (1 ∷ []) (a_record 2 [] (a_record 3 [] no_more))) }
 {
     let mut parts = no_parts(alloc);
-    push_entry(&mut parts, VERSION, Sequence::from_slice(alloc, &[1])?)?;
-    push_entry(&mut parts, TRIPLE, Sequence::new(alloc))?;
-    push_entry(&mut parts, DATALAYOUT, Sequence::new(alloc))?;
+    push_entry(&mut parts, VERSION, Values::from_slice(alloc, &[1])?)?;
+    push_entry(&mut parts, TRIPLE, Values::from_slice(alloc, &[])?)?;
+    push_entry(&mut parts, DATALAYOUT, Values::from_slice(alloc, &[])?)?;
     Ok(parts)
 }
 

@@ -304,6 +304,10 @@ last_for production = if nat_lt production n_expr then production else (if nat_l
 abbrev pub As : ℕ → ℕ → Step → Step
 As asked production step from to = (asked ≤ production) × (production ≤ last_for asked) × step from to
 
+-- a step of one of the productions of operators that repeat
+abbrev pub Repeats : ℕ → Step → Step
+Repeats production step from to = (n_or ≤ production) × (production ≤ n_product) × step from to
+
 -- ---- the grammar
 
 abbrev mutual
@@ -462,8 +466,8 @@ abbrev mutual
   -- 30. to 39. of `operator_of`: the production of the number, associated to the left, so that what stands to the left
   -- of its last operator is the production itself, and to the right the next production
   Spells asked (a_binary production at left mark right) =
-      As asked production (At at (at_of left)
-      (Spells production left then Operator mark production then Spells (suc production) right))
+      Repeats production (As asked production (At at (at_of left)
+      (Spells production left then Operator mark production then Spells (suc production) right)))
 
   -- 40. unary = (`+` | `-` | `!` | `~` | `++` | `--`) unary | `(` basic `)` unary | postfix
   Spells asked (a_unary at absent operand) = As asked n_unary (Word at is_prefix then Spells n_unary operand)

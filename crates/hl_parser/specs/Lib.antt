@@ -1,2 +1,4 @@
+pub mod Codes
 pub mod Grammar
+pub mod Machine
 pub mod Trees

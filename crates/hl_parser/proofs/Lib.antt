@@ -1,0 +1,4 @@
+pub mod Runs
+pub mod Shapes
+pub mod Terminals
+pub mod Opening

@@ -4,7 +4,7 @@ use Rattle.hl_lexer.specs.declared.terminal.Terminal.{Terminal}
 use Rattle.hl_lexer.specs.declared.terminal.Terminal.TheVariants as terminals
 use Rattle.hl_parser.specs.Codes.{all_terminals, is}
 use Rattle.hl_parser.specs.Grammar.{Numbered, Mark, Operator, Spells, Token, Word, is_assign, is_basic, is_prefix, is_step, is_word, last_for, n_args, n_basic, n_choice, n_expr, n_or, n_postfix, n_primary, n_product, n_type, nth, operator_of, peek}
-use Rattle.hl_parser.specs.Machine.{begins_expression, begins_local, begins_type}
+use Rattle.hl_parser.specs.Machine.{begins_expression, begins_local, begins_type, is_repeating}
 use Rattle.hl_parser.specs.Trees.{Tree, a_program, an_item, a_struct, a_member, a_type, a_basic, a_declarator, a_buffer, a_kind, a_shared, a_constant, an_init, a_function, a_result, a_param, a_direction, an_attribute, a_block, a_stmt, a_local, a_start, an_if, a_for, a_while, a_do, a_jump, an_expr, a_choice, a_binary, a_unary, a_postfix, a_primary, an_args, Trees, no_trees, more_trees, Maybe, absent, present}
 use Rattle.std.proofs.lemmas.Bool.{le-leb, le-ltb, leb-true, or_cases}
 use Rattle.hl_parser.proofs.Runs.{index_of, rest_of}
@@ -58,14 +58,10 @@ pub class_no_name : {at : ℕ} {from to : List Numbered} (test : Terminal → Bo
 class_no_name test every_one (t, c, e) =
     ap (λ x. is x terminals.Name) (ap peek e) ∙ not_true (is t terminals.Name) (by_every test (λ t. not (is t terminals.Name)) every_one t c)
 
-is_operator : Terminal → Bool
-is_operator t = nat_le 1 (operator_of t)
-
 operator_no_name : {at production : ℕ} {from to : List Numbered} → n_or ≤ production → Operator at production from to → is (peek from) terminals.Name ≡ false
-unfolding is_operator
 operator_no_name {production = production} low (t, c, e) =
     ap (λ x. is x terminals.Name) (ap peek e)
-    ∙ not_true (is t terminals.Name) (by_every is_operator (λ t. not (is t terminals.Name)) refl t (leb-suc production (operator_of t) low c))
+    ∙ not_true (is t terminals.Name) (by_every is_repeating (λ t. not (is t terminals.Name)) refl t (leb-suc production (operator_of t) low c))
   where
     leb-suc : (p n : ℕ) → n_or ≤ p → n ≡ p → nat_le 1 n ≡ true
     leb-suc p n l e = let h : 1 ≤ n = omega arith in le-leb 1 n h

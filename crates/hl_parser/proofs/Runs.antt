@@ -117,3 +117,8 @@ skip {t = t} {K = K} {V = V} {w = w} {m = m} (i, e) h =
 pub name : {index : ℕ} {K : List Symbol} {V : Kept} {w : Option Kept} {from m : List Numbered} → Token index terminals.Name from m → Runs K (perform acts.Here index V) m w → Runs (symbols.Name ∷ K) V from w
 name {index = index} {K = K} {V = V} {w = w} {m = m} e h =
     subst (λ ts. Runs (symbols.Name ∷ K) V ts w) (sym e) (reads_to (acts.Here ∷ []) [] index terminals.Name m refl h)
+
+-- a symbol that reads the first token
+pub reads_at : {s : Symbol} {K : List Symbol} {V : Kept} {w : Option Kept} {i : ℕ} {t : Terminal} {from m : List Numbered} (done : List Act) (more : List Symbol) → from ≡ nth i t ∷ m → move_of s t (peek m) ≡ reads done more → Runs (more ++ K) (perform_all done i V) m w → Runs (s ∷ K) V from w
+reads_at {s = s} {K = K} {V = V} {w = w} {i = i} {t = t} {m = m} done more e move h =
+    subst (λ ts. Runs (s ∷ K) V ts w) (sym e) (reads_to done more i t m move h)

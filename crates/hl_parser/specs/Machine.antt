@@ -180,6 +180,10 @@ level_of terminals.PlusPlus = 41
 level_of terminals.MinusMinus = 41
 level_of terminal = if is_assign terminal then 27 else operator_of terminal
 
+-- whether a mark is an operator that repeats
+abbrev pub is_repeating : Terminal → Bool
+is_repeating t = nat_le 1 (operator_of t)
+
 -- whether a type, an expression, a parameter, an initialiser, an item or a statement begins with a token
 abbrev pub begins_type : Terminal → Bool
 begins_type t = is_basic t || is t terminals.Name
@@ -280,10 +284,13 @@ rest_of_attribute =
     symbols.Name ∷ symbols.AttributeArguments ∷ symbols.Skip terminals.CloseBracket ∷ symbols.Make acts.Attribute
     ∷ symbols.Make acts.Append ∷ symbols.Attributes ∷ []
 
-abbrev pub rest_of_buffer : List Symbol
-rest_of_buffer =
-    symbols.Make acts.Kind ∷ symbols.Name ∷ symbols.Register ∷ symbols.Skip terminals.Semicolon ∷ symbols.Make acts.Buffer
+abbrev pub behind_kind : List Symbol
+behind_kind =
+    symbols.Name ∷ symbols.Register ∷ symbols.Skip terminals.Semicolon ∷ symbols.Make acts.Buffer
     ∷ symbols.Make acts.Item ∷ []
+
+abbrev pub rest_of_buffer : List Symbol
+rest_of_buffer = symbols.Make acts.Kind ∷ behind_kind
 
 abbrev pub on_result : Terminal → Move
 on_result t =
@@ -339,17 +346,17 @@ on_parenthesis k t next =
 -- an operator behind an operand, where an expression of at least a level is read
 abbrev pub on_operator : ℕ → Terminal → Move
 on_operator k t =
-    if is t terminals.Dot
+    if is_repeating t
+    then reads (acts.Here ∷ []) (symbols.Operand (suc (operator_of t)) ∷ symbols.Make (acts.Binary (operator_of t)) ∷ symbols.Tail (operator_of t) k ∷ [])
+    else (if is_assign t then reads (acts.Here ∷ []) (symbols.Operand 27 ∷ symbols.Make acts.Assignment ∷ symbols.Tail 27 k ∷ [])
+    else (if is_step t then reads (acts.Here ∷ []) (symbols.Make acts.Step ∷ symbols.Tail 41 k ∷ [])
+    else (if is t terminals.Dot
     then reads (acts.Here ∷ []) (symbols.Name ∷ symbols.MethodArguments ∷ symbols.Make acts.Field ∷ symbols.Tail 41 k ∷ [])
     else (if is t terminals.OpenBracket
     then reads (acts.Here ∷ [])
     (symbols.Operand 27 ∷ symbols.Skip terminals.CloseBracket ∷ symbols.Make acts.Index ∷ symbols.Tail 41 k ∷ [])
-    else (if is_step t then reads (acts.Here ∷ []) (symbols.Make acts.Step ∷ symbols.Tail 41 k ∷ [])
-    else (if is t terminals.Question
-    then reads [] (symbols.Operand 27 ∷ symbols.Skip terminals.Colon ∷ symbols.Operand 29 ∷ symbols.Make acts.Choice ∷ symbols.Tail 29 k ∷ [])
-    else (if is_assign t then reads (acts.Here ∷ []) (symbols.Operand 27 ∷ symbols.Make acts.Assignment ∷ symbols.Tail 27 k ∷ [])
-    else reads (acts.Here ∷ [])
-    (symbols.Operand (suc (operator_of t)) ∷ symbols.Make (acts.Binary (operator_of t)) ∷ symbols.Tail (operator_of t) k ∷ [])))))
+    else only t terminals.Question
+    (reads [] (symbols.Operand 27 ∷ symbols.Skip terminals.Colon ∷ symbols.Operand 29 ∷ symbols.Make acts.Choice ∷ symbols.Tail 29 k ∷ []))))))
 
 -- the greatest level of an operator that an expression of a production may stand to the left of
 abbrev pub joins_to : ℕ → ℕ
@@ -467,10 +474,7 @@ on_statements t next =
     if begins_statement t then followed (on_statement t next) (symbols.Make acts.Append ∷ symbols.Statements ∷ []) else yields []
 
 abbrev pub on_start : Terminal → Move
-on_start t =
-    only t terminals.Name
-    (reads (acts.Here ∷ [])
-    (symbols.Make acts.Empty ∷ symbols.Lengths ∷ symbols.Make acts.Declarator ∷ symbols.StartInit ∷ symbols.Make acts.Start ∷ []))
+on_start t = followed (on_declarator t) (symbols.StartInit ∷ symbols.Make acts.Start ∷ [])
 
 abbrev pub on_starts : Terminal → Move
 on_starts t =

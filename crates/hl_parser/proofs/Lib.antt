@@ -5,3 +5,6 @@ pub mod Opening
 pub mod Claims
 pub mod Moves
 pub mod ReadExpressions
+pub mod StandsAs
+pub mod ReadLists
+pub mod ReadDeclarations

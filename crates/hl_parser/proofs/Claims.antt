@@ -149,3 +149,11 @@ abbrev pub Loops : Symbol → Trees → Step
 Loops s trees from to =
     (K : List Symbol) (vs : List Value) (done : Trees) (w : Option Kept) → move_at s to ≡ yields []
     → Runs K (kept (v_trees (append_trees done trees) ∷ vs)) to w → Runs (s ∷ K) (kept (v_trees done ∷ vs)) from w
+
+abbrev pub PerhapsListedClaimed : ℕ → Trees → Step
+PerhapsListedClaimed asked no_trees = Nothing
+PerhapsListedClaimed asked (more_trees first rest) = Claimed asked first then CommasClaimed asked rest
+
+abbrev pub PerhapsClaimed : ℕ → Maybe → Step
+PerhapsClaimed asked absent = Nothing
+PerhapsClaimed asked (present tree) = Claimed asked tree

@@ -8,3 +8,4 @@ pub mod ReadExpressions
 pub mod StandsAs
 pub mod ReadLists
 pub mod ReadDeclarations
+pub mod ReadFunctions

@@ -49,10 +49,10 @@ pub record TypeToken (from to : List Numbered) : Type 0 where
   pub token : from ≡ nth index terminal ∷ to
   pub begins : begins_type terminal ≡ true
 
-or_left : (a b : Bool) → a ≡ true → (a || b) ≡ true
+pub or_left : (a b : Bool) → a ≡ true → (a || b) ≡ true
 or_left a b e = ap (λ x. x || b) e
 
-or_right : (a b : Bool) → b ≡ true → (a || b) ≡ true
+pub or_right : (a b : Bool) → b ≡ true → (a || b) ≡ true
 or_right true b e = refl
 or_right false b e = e
 
@@ -128,19 +128,17 @@ struct_read at index first others from m n o p q r to word named open_mark cf mo
 
 -- ---- buffers
 
-option_value : Option ℕ → Value
+abbrev pub option_value : Option ℕ → Value
 option_value None = v_none
 option_value (Some index) = v_token index
 
 space_read : (space : Option ℕ) (from to : List Numbered) (K : List Symbol) (vs : List Value) (w : Option Kept) → SpaceIs space from to → peek to ≡ terminals.CloseParenthesis → Runs K (kept (option_value space ∷ vs)) to w → Runs (symbols.Space ∷ K) (kept vs) from w
-unfolding option_value
 space_read None from to K vs w e end rest =
     subst (λ ts. Runs (symbols.Space ∷ K) (kept vs) ts w) (sym e)
     (yields_to (acts.Absent ∷ []) to (ap (λ t. move_of symbols.Space t (peek (rest_of to))) end) rest)
 space_read (Some index) from to K vs w (m, comma, named) end rest = reads_at [] (symbols.Name ∷ []) comma.1 refl (name named rest)
 
 register_read : (register space : Option ℕ) (from to : List Numbered) (K : List Symbol) (vs : List Value) (w : Option Kept) → RegisterIs register space from to → peek to ≡ terminals.Semicolon → Runs K (kept (option_value space ∷ option_value register ∷ vs)) to w → Runs (symbols.Register ∷ K) (kept vs) from w
-unfolding option_value
 register_read None None from to K vs w e end rest =
     subst (λ ts. Runs (symbols.Register ∷ K) (kept vs) ts w) (sym e)
     (yields_to (acts.Absent ∷ acts.Absent ∷ []) to (ap (λ t. move_of symbols.Register t (peek (rest_of to))) end) rest)
@@ -152,7 +150,6 @@ register_read (Some register) space from to K vs w (m, colon, (n, word, (o, open
     (skip word (skip open_mark (name named (space_read space p q _ _ _ has_space (peek_mark close_mark) (skip close_mark rest)))))
 
 buffer_made : (at : ℕ) (kind : Tree) (index : ℕ) (register space : Option ℕ) (to : List Numbered) (K : List Symbol) (vs : List Value) (w : Option Kept) → at ≡ at_of kind → Runs K (kept (v_tree (a_buffer at kind index register space) ∷ vs)) to w → Runs (symbols.Make acts.Buffer ∷ K) (kept (option_value space ∷ option_value register ∷ v_token index ∷ v_tree kind ∷ vs)) to w
-unfolding option_value
 buffer_made at kind index None None to K vs w e rest = does (subst (λ a. Runs K (kept (v_tree (a_buffer a kind index None None) ∷ vs)) to w) e rest)
 buffer_made at kind index None (Some s) to K vs w e rest = does (subst (λ a. Runs K (kept (v_tree (a_buffer a kind index None (Some s)) ∷ vs)) to w) e rest)
 buffer_made at kind index (Some r) None to K vs w e rest = does (subst (λ a. Runs K (kept (v_tree (a_buffer a kind index (Some r) None) ∷ vs)) to w) e rest)

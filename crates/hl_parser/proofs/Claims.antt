@@ -6,7 +6,7 @@ use Rattle.hl_parser.specs.declared.act.Act.TheVariants as acts
 use Rattle.hl_parser.specs.declared.symbol.Symbol.{Symbol}
 use Rattle.hl_parser.specs.declared.symbol.Symbol.TheVariants as symbols
 use Rattle.hl_parser.specs.Codes.{is}
-use Rattle.hl_parser.specs.Grammar.{Each, Commas, Lengths, Mark, Nothing, Numbered, Spells, Step, nth, n_attribute, n_expr, n_item, n_member, n_stmt, n_local, n_init, peek, ◌then◌}
+use Rattle.hl_parser.specs.Grammar.{Each, Commas, Lengths, Mark, NoElse, Nothing, Numbered, Spells, Step, nth, n_attribute, n_expr, n_item, n_member, n_stmt, n_local, n_init, peek, ◌or◌, ◌then◌}
 use Rattle.hl_parser.specs.Machine.{Kept, Value, append_tree, begins_item, behind_kind, kept, level_of, rest_of_attribute, start, v_token, v_tree, v_trees, yields}
 use Rattle.hl_parser.specs.Trees.{Tree, a_program, an_item, a_struct, a_member, a_type, a_basic, a_declarator, a_buffer, a_kind, a_shared, a_constant, an_init, a_function, a_result, a_param, a_direction, an_attribute, a_block, a_stmt, a_local, a_start, an_if, a_for, a_while, a_do, a_jump, an_expr, a_choice, a_binary, a_unary, a_postfix, a_primary, an_args, Trees, no_trees, more_trees, Maybe, absent, present}
 use Rattle.hl_parser.proofs.Runs.{Runs, move_at}
@@ -157,3 +157,15 @@ PerhapsListedClaimed asked (more_trees first rest) = Claimed asked first then Co
 abbrev pub PerhapsClaimed : ℕ → Maybe → Step
 PerhapsClaimed asked absent = Nothing
 PerhapsClaimed asked (present tree) = Claimed asked tree
+
+abbrev pub InitClaimed : Maybe → Step
+InitClaimed absent = Nothing
+InitClaimed (present init) = Mark terminals.Equals then Claimed n_init init
+
+abbrev pub FirstClaimed : Maybe → Step
+FirstClaimed absent = Nothing
+FirstClaimed (present first) = Claimed n_local first or Claimed n_expr first
+
+abbrev pub ElseClaimed : Maybe → Step
+ElseClaimed absent = NoElse
+ElseClaimed (present alternative) = Mark terminals.Else then Claimed n_stmt alternative

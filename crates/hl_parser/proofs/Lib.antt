@@ -9,3 +9,4 @@ pub mod StandsAs
 pub mod ReadLists
 pub mod ReadDeclarations
 pub mod ReadFunctions
+pub mod ReadStatements

@@ -58,7 +58,7 @@ direction_token : (tree : Tree) (from to : List Numbered) → Spells n_direction
 direction_token (a_direction at) from to (a, b, h) = (at, refl, h)
 direction_token tree from to h = let n = number_is tree n_direction from to h in absurd (omega arith)
 
-abbrev maybe_value : Maybe → Value
+abbrev pub maybe_value : Maybe → Value
 maybe_value absent = v_none
 maybe_value (present tree) = v_tree tree
 

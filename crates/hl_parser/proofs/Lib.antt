@@ -10,3 +10,4 @@ pub mod ReadLists
 pub mod ReadDeclarations
 pub mod ReadFunctions
 pub mod ReadStatements
+pub mod Complete

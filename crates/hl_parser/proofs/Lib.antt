@@ -11,3 +11,5 @@ pub mod ReadDeclarations
 pub mod ReadFunctions
 pub mod ReadStatements
 pub mod Complete
+pub mod Words
+pub mod Soundness

@@ -108,14 +108,36 @@ class_quiet test level t every_one e = not_true _ (by_every test (λ t. not (is 
 -- bounds on levels
 
 pub joins_high : (production : ℕ) → 30 ≤ production → joins_to production ≡ production
-joins_high production high = if_false (nat_lt production 30) _ _ (le-ltb production 30 high)
+joins_high production high =
+    if_false (nat_lt production 29) _ _ (le-ltb production 29 (omega arith)) ∙ if_false (nat_lt production 30) _ _ (le-ltb production 30 high)
+
+-- how far an expression joins, by its production
+pub data Joins (production : ℕ) : Type 0 where
+  joins_none : production ≤ 28 → joins_to production ≡ 0 → Joins production
+  joins_one : production ≡ 29 → joins_to production ≡ 28 → Joins production
+  joins_all : 30 ≤ production → joins_to production ≡ production → Joins production
+
+pub joins_cases : (production : ℕ) → Joins production
+joins_cases production = by_test (nat_lt production 29) refl
+  where
+    by_last : (b : Bool) → nat_lt production 29 ≡ false → nat_lt production 30 ≡ b → Joins production
+    by_last true e f =
+        let above = ltb-false production 29 e in
+        let below = ltb-true production 30 f in
+        joins_one (omega arith) (if_false (nat_lt production 29) _ _ e ∙ if_true (nat_lt production 30) _ _ f)
+    by_last false e f = joins_all (ltb-false production 30 f) (if_false (nat_lt production 29) _ _ e ∙ if_false (nat_lt production 30) _ _ f)
+
+    by_test : (b : Bool) → nat_lt production 29 ≡ b → Joins production
+    by_test true e = let below = ltb-true production 29 e in joins_none (omega arith) (if_true (nat_lt production 29) _ _ e)
+    by_test false e = by_last (nat_lt production 30) e refl
 
 pub joins_assign : (production : ℕ) → 29 ≤ production → 27 ≤ joins_to production
-joins_assign production high = by_test (nat_lt production 30) refl
+joins_assign production high = by_cases (joins_cases production)
   where
-    by_test : (b : Bool) → nat_lt production 30 ≡ b → 27 ≤ joins_to production
-    by_test true e = let j = if_true (nat_lt production 30) (production - 1) production e in omega arith
-    by_test false e = let j = if_false (nat_lt production 30) (production - 1) production e in omega arith
+    by_cases : Joins production → 27 ≤ joins_to production
+    by_cases (joins_none a b) = omega arith
+    by_cases (joins_one a b) = omega arith
+    by_cases (joins_all a b) = omega arith
 
 edge_middle : ℕ → ℕ
 edge_middle production = if nat_lt production 40 then suc production else (if nat_le production 40 then 41 else 43)

@@ -360,7 +360,7 @@ on_operator k t =
 
 -- the greatest level of an operator that an expression of a production may stand to the left of
 abbrev pub joins_to : ℕ → ℕ
-joins_to production = if nat_lt production 30 then production - 1 else production
+joins_to production = if nat_lt production 29 then 0 else (if nat_lt production 30 then 28 else production)
 
 abbrev pub on_tail : ℕ → ℕ → Terminal → Move
 on_tail production k t =

@@ -13,3 +13,5 @@ pub mod ReadStatements
 pub mod Complete
 pub mod Words
 pub mod Soundness
+pub mod SoundDeclarations
+pub mod SoundStatements

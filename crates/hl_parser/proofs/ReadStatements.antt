@@ -93,7 +93,7 @@ local_begins (a_local at None type (more_trees first others)) from to (a, b, (e,
     ∙ (ap (begins_local token.terminal) (start_named first n o hs) ∙ local_by_type token.terminal token.begins)
 local_begins tree from to h = let n = number_is tree n_local from to h in absurd (omega arith)
 
-local_never : (t : Terminal) → NeverYields (on_local t)
+pub local_never : (t : Terminal) → NeverYields (on_local t)
 local_never t =
     never_if (begins_type t) _ _
     (never_led (acts.Absent ∷ [])

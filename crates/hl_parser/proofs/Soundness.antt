@@ -17,12 +17,12 @@ use Rattle.hl_parser.proofs.Terminals.{by_every, not_true, same_is}
 use Rattle.hl_parser.proofs.Words.{AttributedWord, BracesEnd, Control, OperandWord, ParenthesisWord, SomeMaybe, SomeOption, SomeTrees, Sound, Spelled, TailWord, Word, Words, sound_followed, sound_if, sound_is, sound_known, sound_led, sound_only, sound_reads, sound_refuses, sound_yields}
 
 -- a step to a place is one to an equal place
-end_at : (step : Step) {from m to : List Numbered} → m ≡ to → step from m → step from to
+pub end_at : (step : Step) {from m to : List Numbered} → m ≡ to → step from m → step from to
 end_at step {from = from} e h = subst (λ ts. step from ts) e h
 
 -- an expression of a level is one of each lower level
 
-less : (p k n : ℕ) → n_expr ≤ k → k ≤ p → p ≤ n_primary → p ≤ n → n ≤ last_for p → (k ≤ n) × (n ≤ last_for k)
+pub less : (p k n : ℕ) → n_expr ≤ k → k ≤ p → p ≤ n_primary → p ≤ n → n ≤ last_for p → (k ≤ n) × (n ≤ last_for k)
 less p k n low between high a b =
     let last : last_for p ≡ 42 = last_of_expression p (omega arith) high in
     let same : last_for k ≡ 42 = last_of_expression k low (omega arith) in
@@ -80,7 +80,7 @@ stands_for (an_args at arguments) p k from to low between high (a, b, h) = let x
 
 -- ---- types, declarators and members
 
-sound_type : (t : Terminal) → Sound (Spelled n_type) t (on_type t)
+pub sound_type : (t : Terminal) → Sound (Spelled n_type) t (on_type t)
 sound_type t =
     sound_if (is_basic t) _ _
     (λ c. sound_reads (λ i m to e. end_at (Spelled n_type) e (a_type i (present (a_basic i)), (omega arith, omega arith, (refl, (omega arith, omega arith, (t, c, refl)))))))
@@ -91,13 +91,13 @@ member_row from m to (type, ht) (n, (first, hf), (o, (others, ho), (p, semicolon
     end_at (Spelled n_member) e
     (a_member (at_of type) type (more_trees first others), (omega arith, omega arith, (refl, (m, ht, (o, (n, hf, ho), semicolon)))))
 
-sound_member : (t : Terminal) → Sound (Spelled n_member) t (on_member t)
+pub sound_member : (t : Terminal) → Sound (Spelled n_member) t (on_member t)
 sound_member t = sound_followed (on_type t) _ (sound_type t) member_row
 
 members_row : (from m to : List Numbered) → Spelled n_member from m → Words (symbols.Make acts.Append ∷ symbols.Members ∷ []) m to → SomeTrees (Each n_member) from to
 members_row from m to (first, hf) (n, (others, ho), e) = end_at (SomeTrees (Each n_member)) e (more_trees first others, (m, hf, ho))
 
-sound_members : (t : Terminal) → Sound (SomeTrees (Each n_member)) t (on_members t)
+pub sound_members : (t : Terminal) → Sound (SomeTrees (Each n_member)) t (on_members t)
 sound_members t =
     sound_if (begins_type t) _ _ (λ _. sound_followed (on_member t) _ (sound_member t) members_row)
     (λ _. sound_yields (λ ts e. (no_trees, refl)))
@@ -106,14 +106,14 @@ declarator_row : (i : ℕ) (m to : List Numbered) → Words (symbols.Make acts.E
 declarator_row i m to (n, (lengths, h), e) =
     end_at (Spelled n_declarator) e (a_declarator i lengths, (omega arith, omega arith, (m, refl, h)))
 
-sound_declarator : (t : Terminal) → Sound (Spelled n_declarator) t (on_declarator t)
+pub sound_declarator : (t : Terminal) → Sound (Spelled n_declarator) t (on_declarator t)
 sound_declarator t = sound_only t terminals.Name (sound_reads declarator_row)
 
 declarators_row : (i : ℕ) (m to : List Numbered) → Words (symbols.Declarator ∷ symbols.Make acts.Append ∷ symbols.Declarators ∷ []) m to → SomeTrees (Commas n_declarator) (nth i terminals.Comma ∷ m) to
 declarators_row i m to (n, (first, hf), (o, (others, ho), e)) =
     end_at (SomeTrees (Commas n_declarator)) e (more_trees first others, (m, (i, refl), (n, hf, ho)))
 
-sound_declarators : (t : Terminal) → Sound (SomeTrees (Commas n_declarator)) t (on_declarators t)
+pub sound_declarators : (t : Terminal) → Sound (SomeTrees (Commas n_declarator)) t (on_declarators t)
 sound_declarators t = sound_is t terminals.Comma (sound_reads declarators_row) (λ _. sound_yields (λ ts e. (no_trees, refl)))
 
 operand : (k : ℕ) → n_expr ≤ k → k ≤ n_unary → {from to : List Numbered} → OperandWord k from to → Spelled k from to
@@ -124,7 +124,7 @@ lengths_row i m to (n, h, (o, close_mark, (p, (others, ho), e))) =
     let first = h (omega arith) (omega arith) in
     end_at (SomeTrees Lengths) e (more_trees first.0 others, (m, (i, refl), (n, first.1, (o, close_mark, ho))))
 
-sound_lengths : (t : Terminal) → Sound (SomeTrees Lengths) t (on_lengths t)
+pub sound_lengths : (t : Terminal) → Sound (SomeTrees Lengths) t (on_lengths t)
 sound_lengths t = sound_is t terminals.OpenBracket (sound_reads lengths_row) (λ _. sound_yields (λ ts e. (no_trees, refl)))
 
 -- ---- arguments and expressions
@@ -134,20 +134,20 @@ expressions_row i m to (n, h, (o, (others, ho), e)) =
     let first = h (omega arith) (omega arith) in
     end_at (SomeTrees (Commas n_expr)) e (more_trees first.0 others, (m, (i, refl), (n, first.1, ho)))
 
-sound_expressions : (t : Terminal) → Sound (SomeTrees (Commas n_expr)) t (on_expressions t)
+pub sound_expressions : (t : Terminal) → Sound (SomeTrees (Commas n_expr)) t (on_expressions t)
 sound_expressions t = sound_is t terminals.Comma (sound_reads expressions_row) (λ _. sound_yields (λ ts e. (no_trees, refl)))
 
 args_row : (i : ℕ) (m to : List Numbered) → Words (symbols.Make acts.Empty ∷ symbols.ArgList ∷ symbols.Make acts.Args ∷ []) m to → Spelled n_args (nth i terminals.OpenParenthesis ∷ m) to
 args_row i m to (n, (arguments, (o, h, close_mark)), e) =
     end_at (Spelled n_args) e (an_args i arguments, (omega arith, omega arith, (m, refl, (o, h, close_mark))))
 
-sound_args : (t : Terminal) → Sound (Spelled n_args) t (on_args t)
+pub sound_args : (t : Terminal) → Sound (Spelled n_args) t (on_args t)
 sound_args t = sound_only t terminals.OpenParenthesis (sound_reads args_row)
 
 method_arguments_row : {t : Terminal} → Sound (Spelled n_args) t (on_args t) → Sound (SomeMaybe (Perhaps n_args)) t (on_args t)
 method_arguments_row {t = t} h = sound_only t terminals.OpenParenthesis (sound_reads (λ i m to words. let a = args_row i m to words in (present a.0, a.1)))
 
-sound_method_arguments : (t : Terminal) → Sound (SomeMaybe (Perhaps n_args)) t (on_method_arguments t)
+pub sound_method_arguments : (t : Terminal) → Sound (SomeMaybe (Perhaps n_args)) t (on_method_arguments t)
 sound_method_arguments t =
     sound_if (is t terminals.OpenParenthesis) _ _ (λ _. method_arguments_row (sound_args t)) (λ _. sound_yields (λ ts e. (absent, refl)))
 
@@ -206,7 +206,7 @@ parentheses_row k from m to h (n, close_mark, (o, word, e)) low high index befor
     inner_of : (index : ℕ) (tree : Tree) (before from m n : List Numbered) → before ≡ nth index terminals.OpenParenthesis ∷ from → Spells n_expr tree from m → Mark terminals.CloseParenthesis m n → Spells n_primary (a_primary index (present tree) absent) before n
     inner_of index tree before from m n e h close_mark = (omega arith, omega arith, (from, e, (m, h, close_mark)))
 
-sound_parenthesis : (k : ℕ) (t next : Terminal) → Sound (ParenthesisWord k) t (on_parenthesis k t next)
+pub sound_parenthesis : (k : ℕ) (t next : Terminal) → Sound (ParenthesisWord k) t (on_parenthesis k t next)
 sound_parenthesis k t next =
     sound_if (is_basic t && is next terminals.CloseParenthesis) _ _
     (λ c. sound_reads (cast_row k t (and_parts (is_basic t) (is next terminals.CloseParenthesis) c).0))
@@ -330,7 +330,7 @@ sound_operator production k t r =
     sound_known t terminals.Question (same_is t terminals.Question c) (sound_reads (question_row production k (omega arith) (omega arith))))
     (λ _. sound_refuses))))))
 
-sound_tail : (production k : ℕ) (t : Terminal) → Sound (TailWord production k) t (on_tail production k t)
+pub sound_tail : (production k : ℕ) (t : Terminal) → Sound (TailWord production k) t (on_tail production k t)
 sound_tail production k t =
     sound_if (nat_le k (level_of t) && nat_le (level_of t) (joins_to production)) _ _
     (λ c. let both = and_parts (nat_le k (level_of t)) (nat_le (level_of t) (joins_to production)) c in

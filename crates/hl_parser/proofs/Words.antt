@@ -8,6 +8,7 @@ use Rattle.hl_parser.specs.declared.symbol.Symbol.TheVariants as symbols
 use Rattle.hl_parser.specs.Codes.{is}
 use Rattle.hl_parser.specs.Grammar.{AttributeArguments, Commas, Each, ElseIs, FirstIs, InitIs, Lengths, Mark, Nothing, Numbered, Perhaps, PerhapsListed, RegisterIs, SemanticIs, SpaceIs, Spells, Step, n_args, n_attribute, n_block, n_declarator, n_direction, n_do, n_expr, n_for, n_if, n_init, n_item, n_local, n_member, n_param, n_primary, n_result, n_start, n_stmt, n_type, n_unary, n_while, nth, peek, ◌or◌, ◌then◌}
 use Rattle.hl_parser.specs.Machine.{Move, followed, led, only, reads, refuses, yields}
+use Rattle.hl_parser.proofs.Runs.{NeverYields}
 use Rattle.hl_parser.proofs.Terminals.{same_is}
 use Rattle.hl_parser.specs.Trees.{Maybe, Tree, Trees}
 
@@ -174,3 +175,9 @@ pub sound_led : {step : Step} {t : Terminal} (first : List Act) (x : Move) → S
 sound_led first (reads done pending) h = record { sound = h.sound }
 sound_led first (yields done) h = sound_refuses
 sound_led first refuses h = sound_refuses
+
+-- what stands for one step stands for another
+pub sound_as : {step other : Step} {t : Terminal} (x : Move) → ((from to : List Numbered) → other from to → step from to) → NeverYields x → Sound other t x → Sound step t x
+sound_as {t = t} (reads done more) as_step never h = record { sound = λ i m to words. as_step (nth i t ∷ m) to (h.sound i m to words) }
+sound_as (yields done) as_step never h = absurd never
+sound_as refuses as_step never h = sound_refuses

@@ -15,3 +15,4 @@ pub mod Words
 pub mod Soundness
 pub mod SoundDeclarations
 pub mod SoundStatements
+pub mod SoundRun

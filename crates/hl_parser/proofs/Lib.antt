@@ -16,3 +16,4 @@ pub mod Soundness
 pub mod SoundDeclarations
 pub mod SoundStatements
 pub mod SoundRun
+pub mod Independence

@@ -323,16 +323,21 @@ abbrev pub on_items : Terminal → Move
 on_items t =
     if begins_item t then followed (on_item t) (symbols.Make acts.Append ∷ symbols.Items ∷ []) else yields []
 
+-- an expression of at least a level, but for a call
+abbrev pub other_operand : ℕ → Terminal → Move
+other_operand k t =
+    if is_word t then reads (acts.Here ∷ []) (symbols.Make acts.Word ∷ symbols.Tail 42 k ∷ [])
+    else (if is_basic t
+    then reads (acts.Here ∷ []) (symbols.Make acts.Basic ∷ symbols.Args ∷ symbols.Make acts.Constructor ∷ symbols.Tail 42 k ∷ [])
+    else (if is_prefix t then reads (acts.Here ∷ []) (symbols.Operand 40 ∷ symbols.Make acts.Unary ∷ symbols.Tail 40 k ∷ [])
+    else only t terminals.OpenParenthesis (reads (acts.Here ∷ []) (symbols.Parenthesis k ∷ []))))
+
 -- an expression of at least a level
 abbrev pub on_operand : ℕ → Terminal → Terminal → Move
 on_operand k t next =
     if is t terminals.Name && is next terminals.OpenParenthesis
     then reads (acts.Here ∷ []) (symbols.Args ∷ symbols.Make acts.Call ∷ symbols.Tail 42 k ∷ [])
-    else (if is_word t then reads (acts.Here ∷ []) (symbols.Make acts.Word ∷ symbols.Tail 42 k ∷ [])
-    else (if is_basic t
-    then reads (acts.Here ∷ []) (symbols.Make acts.Basic ∷ symbols.Args ∷ symbols.Make acts.Constructor ∷ symbols.Tail 42 k ∷ [])
-    else (if is_prefix t then reads (acts.Here ∷ []) (symbols.Operand 40 ∷ symbols.Make acts.Unary ∷ symbols.Tail 40 k ∷ [])
-    else only t terminals.OpenParenthesis (reads (acts.Here ∷ []) (symbols.Parenthesis k ∷ [])))))
+    else other_operand k t
 
 abbrev pub on_parenthesis : ℕ → Terminal → Terminal → Move
 on_parenthesis k t next =
@@ -454,12 +459,10 @@ on_local t =
     (reads (acts.Here ∷ [])
     (symbols.Type ∷ symbols.Make acts.Empty ∷ symbols.Start ∷ symbols.Make acts.Append ∷ symbols.Starts ∷ symbols.Make acts.Local ∷ []))
 
-abbrev pub on_statement : Terminal → Terminal → Move
-on_statement t next =
-    if begins_local t next then followed (on_local t) (symbols.Skip terminals.Semicolon ∷ symbols.Make acts.Part ∷ [])
-    else (if begins_expression t
-    then followed (on_operand 27 t next) (symbols.Skip terminals.Semicolon ∷ symbols.Make acts.Part ∷ [])
-    else (if is_control t then led (acts.Empty ∷ []) (followed (on_attributed t) (symbols.Make acts.Part ∷ []))
+-- a statement, but for locals and expressions
+abbrev pub other_statement : Terminal → Move
+other_statement t =
+    if is_control t then led (acts.Empty ∷ []) (followed (on_attributed t) (symbols.Make acts.Part ∷ []))
     else (if is t terminals.Return
     then reads (acts.Here ∷ []) (symbols.Optional ∷ symbols.Make acts.Jump ∷ symbols.Skip terminals.Semicolon ∷ symbols.Make acts.Part ∷ [])
     else (if is_jump t
@@ -467,7 +470,14 @@ on_statement t next =
     else (if is t terminals.OpenBracket
     then reads (acts.Empty ∷ acts.Here ∷ []) (rest_of_attribute ++ symbols.Attributed ∷ symbols.Make acts.Part ∷ [])
     else (if is t terminals.Semicolon then reads (acts.Here ∷ []) (symbols.Make acts.Nothing ∷ [])
-    else followed (on_block t) (symbols.Make acts.Part ∷ [])))))))
+    else followed (on_block t) (symbols.Make acts.Part ∷ [])))))
+
+abbrev pub on_statement : Terminal → Terminal → Move
+on_statement t next =
+    if begins_local t next then followed (on_local t) (symbols.Skip terminals.Semicolon ∷ symbols.Make acts.Part ∷ [])
+    else (if begins_expression t
+    then followed (on_operand 27 t next) (symbols.Skip terminals.Semicolon ∷ symbols.Make acts.Part ∷ [])
+    else other_statement t)
 
 abbrev pub on_statements : Terminal → Terminal → Move
 on_statements t next =

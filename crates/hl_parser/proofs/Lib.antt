@@ -17,3 +17,4 @@ pub mod SoundDeclarations
 pub mod SoundStatements
 pub mod SoundRun
 pub mod Independence
+pub mod Completion

@@ -18,3 +18,4 @@ pub mod SoundStatements
 pub mod SoundRun
 pub mod Independence
 pub mod Completion
+pub mod Progress

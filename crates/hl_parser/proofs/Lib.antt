@@ -19,3 +19,4 @@ pub mod SoundRun
 pub mod Independence
 pub mod Completion
 pub mod Progress
+pub mod Plain

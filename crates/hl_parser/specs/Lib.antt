@@ -1,4 +1,6 @@
 pub mod Codes
 pub mod Grammar
+pub mod Laws
 pub mod Machine
 pub mod Trees
+pub mod Views

@@ -2,4 +2,8 @@
 #![tactic(auto)]
 
 mod act;
+pub mod laws;
 mod symbol;
+mod tree;
+
+pub use tree::{Tree, Trees};

@@ -20,3 +20,4 @@ pub mod Independence
 pub mod Completion
 pub mod Progress
 pub mod Plain
+pub mod StackFacts

@@ -44,7 +44,7 @@ reads_to {K = K} {V = V} done more i t m e h =
 pub does : {a : Act} {K : List Symbol} {V : Kept} {w : Option Kept} {ts : List Numbered} → Runs K (perform a (index_of ts) V) ts w → Runs (symbols.Make a ∷ K) V ts w
 does {a = a} {ts = ts} h = yields_to (a ∷ []) ts refl h
 
-perform-append : (xs ys : List Act) (i : ℕ) (V : Kept) → perform_all (xs ++ ys) i V ≡ perform_all ys i (perform_all xs i V)
+pub perform-append : (xs ys : List Act) (i : ℕ) (V : Kept) → perform_all (xs ++ ys) i V ≡ perform_all ys i (perform_all xs i V)
 perform-append [] ys i V = refl
 perform-append (x ∷ xs) ys i V = perform-append xs ys i (perform x i V)
 

@@ -1,5 +1,6 @@
 pub mod Codes
 pub mod Grammar
+pub mod Held
 pub mod Laws
 pub mod Machine
 pub mod Trees

@@ -1,0 +1,58 @@
+-- The values that the parser holds, beside those of the machine.
+use Rattle.std.specs.Prelude.{◌≡◌, ℕ, ◌<◌, max, List, [], ◌∷◌, ◌++◌, map, reverse, Option, None, Some}
+use Rattle.hl_parser.specs.declared.act.Act.{Act}
+use Rattle.hl_parser.specs.declared.values.Part.{Part}
+use Rattle.hl_parser.specs.declared.values.Part.TheVariants as parts
+use Rattle.hl_parser.specs.declared.values.Value as held
+use Rattle.hl_parser.specs.declared.values.Values.{Values}
+use Rattle.hl_parser.specs.declared.parser.Parser.{Parser}
+use Rattle.hl_parser.specs.declared.parser.Outcome.{Outcome}
+use Rattle.hl_parser.specs.declared.parser.Outcome.TheVariants.{Reads, Yields, Refuses}
+use Rattle.hl_parser.specs.Machine.{Kept, Move, Value, gone, kept, perform_all, reads, refuses, yields, v_none, v_token, v_tree, v_trees}
+use Rattle.hl_parser.specs.Trees.{depth, depths}
+use Rattle.hl_parser.specs.Views.{plain_of, plain_trees}
+
+-- a value as the machine sees it
+abbrev pub value_of : Part → Value
+value_of (parts.Token index) = v_token index
+value_of (parts.Tree tree) = v_tree (plain_of tree)
+value_of (parts.Trees trees) = v_trees (plain_trees trees)
+value_of parts.Nothing = v_none
+
+-- the values as the machine sees them, the last one first
+abbrev pub values_of : List held.Value → List Value
+values_of values = reverse (map (λ v. value_of v.part) values)
+
+-- how deep values are
+abbrev pub depth_of : Value → ℕ
+depth_of (v_token index) = 0
+depth_of (v_tree tree) = depth tree
+depth_of (v_trees trees) = depths trees
+depth_of v_none = 0
+
+abbrev pub deepest : List Value → ℕ
+deepest [] = 0
+deepest (value ∷ values) = max (depth_of value) (deepest values)
+
+-- no values are kept because there are none, or one is too deep
+abbrev pub IsLost : Kept → Type 0
+IsLost gone = Unit {0}
+IsLost (kept values) = 64 < deepest values
+
+abbrev pub IsHeld : Option (List held.Value) → Kept → Type 0
+IsHeld None values = IsLost values
+IsHeld (Some mine) values = values ≡ kept (values_of mine)
+
+abbrev pub Holds : Values → Kept → Type 0
+Holds mine values = IsHeld mine.kept values
+
+-- acts were done on the values
+abbrev pub Performed : List Act → ℕ → Values → Values → Type 0
+Performed done at before after = (values : Kept) → Holds before values → Holds after (perform_all done at values)
+
+-- what a symbol did at a token: it read it, it yielded, or it can't stand there
+abbrev pub Did : Move → ℕ → Parser → Parser → Outcome → Type 0
+Did (reads done more) at before after Reads = (after.pending ≡ more ++ before.pending) × Performed done at before.values after.values
+Did (yields done) at before after Yields = (after.pending ≡ before.pending) × Performed done at before.values after.values
+Did refuses at before after Refuses = Unit {0}
+Did move at before after outcome = ⊥

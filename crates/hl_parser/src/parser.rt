@@ -1,0 +1,84 @@
+//! The machine that reads tokens.
+
+ghost use Rattle.std.specs.Prelude.{◌≡◌, [], ◌∷◌, IfOk, OnOk};
+ghost use Rattle.hl_parser.specs.Held.{Did};
+ghost use Rattle.hl_parser.specs.Machine.{reads, yields, refuses, on_type, on_member, on_declarators};
+
+use crate::act::Act;
+use crate::class::is_basic;
+use crate::pending::Pending;
+use crate::symbol::Symbol;
+use crate::values::Values;
+use base_core::NoMemory;
+use hl_lexer::Terminal;
+
+/// What a symbol does at a token.
+#[derive(Clone, Copy, Debug, PartialEq, Eq)]
+pub(crate) enum Outcome {
+    /// It reads it.
+    Reads,
+    /// It is done with, and the token is still to be read.
+    Yields,
+    /// It can't stand there.
+    Refuses,
+}
+
+/// A token that is looked at.
+#[derive(Clone, Copy, Debug)]
+pub(crate) struct Look {
+    /// Its index.
+    pub(crate) at: usize,
+    /// What it is.
+    pub(crate) terminal: Terminal,
+    /// What the next one is.
+    pub(crate) next: Terminal,
+}
+
+/// What is still to be read, and what is read so far.
+#[derive(Debug, Drop)]
+pub(crate) struct Parser {
+    /// What is still to be read.
+    pub(crate) pending: Pending,
+    /// What is read so far.
+    pub(crate) values: Values,
+}
+
+impl Parser {
+    /// Reads a token, with symbols still to be read in the place of one.
+    pub(crate) fn reads(&mut self, look: Look, done: &[Act], more: &[Symbol]) -> Result<Outcome, NoMemory>
+        ensures { IfOk result (λ outcome. Did (reads done.now more.now) look.at self.old self.new outcome) }
+    {
+        self.values.perform_all(done, look.at)?;
+        self.pending.push(more)?;
+        Ok(Outcome::Reads)
+    }
+
+    /// Is done with a symbol.
+    pub(crate) fn yields(&mut self, look: Look, done: &[Act]) -> Result<Outcome, NoMemory>
+        ensures { IfOk result (λ outcome. Did (yields done.now) look.at self.old self.new outcome) }
+    {
+        self.values.perform_all(done, look.at)?;
+        Ok(Outcome::Yields)
+    }
+
+    /// A type.
+    pub(crate) fn on_type(&mut self, look: Look) -> Result<Outcome, NoMemory>
+        ensures { IfOk result (λ outcome. Did (on_type look.terminal) look.at self.old self.new outcome) }
+    {
+        match look.terminal {
+            Terminal::Name => self.reads(look, &[Act::Here], &[Symbol::Make(Act::NameType)]),
+            terminal if is_basic(terminal) => self.reads(look, &[Act::Here], &[Symbol::Make(Act::Basic), Symbol::Make(Act::BasicType)]),
+            _ => Ok(Outcome::Refuses),
+        }
+    }
+
+    /// Members.
+    pub(crate) fn on_declarators(&mut self, look: Look) -> Result<Outcome, NoMemory>
+        ensures { IfOk result (λ outcome. Did (on_declarators look.terminal) look.at self.old self.new outcome) }
+    {
+        match look.terminal {
+            Terminal::Comma => self.reads(look, &[], &[Symbol::Declarator, Symbol::Make(Act::Append), Symbol::Declarators]),
+            _ => self.yields(look, &[]),
+        }
+    }
+}

@@ -43,19 +43,52 @@ completes (symbols.Skip t) = record { word = t ∷ []; is_word = λ i rest. (i, 
 completes symbols.Name = record { word = terminals.Name ∷ []; is_word = λ i rest. (i, refl) }
 completes symbols.Item = record {
   word = terminals.ByteAddressBuffer ∷ terminals.Name ∷ terminals.Semicolon ∷ [];
-  is_word = λ i rest. (an_item i (a_buffer i (a_kind i absent) (suc i) None None),
-    (omega arith, omega arith, (refl, inr (inl (omega arith, omega arith, (refl, (nth (suc i) terminals.Name ∷ nth (suc (suc i)) terminals.Semicolon ∷ rest,
-    (omega arith, omega arith, (terminals.ByteAddressBuffer, refl, refl)), (nth (suc (suc i)) terminals.Semicolon ∷ rest, refl,
-    (nth (suc (suc i)) terminals.Semicolon ∷ rest, refl, (suc (suc i), refl))))))))));
+  is_word = λ i rest. (
+    an_item i (a_buffer i (a_kind i absent) (suc i) None None),
+    (
+      omega arith,
+      omega arith,
+      (
+        refl,
+        inr (inl (
+          omega arith,
+          omega arith,
+          (
+            refl,
+            (
+              nth (suc i) terminals.Name ∷ nth (suc (suc i)) terminals.Semicolon ∷ rest,
+              (omega arith, omega arith, (terminals.ByteAddressBuffer, refl, refl)),
+              (
+                nth (suc (suc i)) terminals.Semicolon ∷ rest,
+                refl,
+                (nth (suc (suc i)) terminals.Semicolon ∷ rest, refl, (suc (suc i), refl)),
+              ),
+            ),
+          ),
+        )),
+      ),
+    ),
+  );
 }
 completes symbols.Items = record { word = []; is_word = λ i rest. (no_trees, refl) }
 completes symbols.Members = record { word = []; is_word = λ i rest. (no_trees, refl) }
 completes symbols.Member = record {
   word = terminals.Int ∷ terminals.Name ∷ terminals.Semicolon ∷ [];
-  is_word = λ i rest. (a_member i (a_type i (present (a_basic i))) (more_trees (a_declarator (suc i) no_trees) no_trees),
-    (omega arith, omega arith, (refl, (nth (suc i) terminals.Name ∷ nth (suc (suc i)) terminals.Semicolon ∷ rest,
-    int_tree i (nth (suc i) terminals.Name ∷ nth (suc (suc i)) terminals.Semicolon ∷ rest),
-    (nth (suc (suc i)) terminals.Semicolon ∷ rest, (nth (suc (suc i)) terminals.Semicolon ∷ rest, name_tree (suc i) (nth (suc (suc i)) terminals.Semicolon ∷ rest), refl), (suc (suc i), refl))))));
+  is_word = λ i rest. (
+    a_member i (a_type i (present (a_basic i))) (more_trees (a_declarator (suc i) no_trees) no_trees),
+    (
+      omega arith,
+      omega arith,
+      (
+        refl,
+        (
+          nth (suc i) terminals.Name ∷ nth (suc (suc i)) terminals.Semicolon ∷ rest,
+          int_tree i (nth (suc i) terminals.Name ∷ nth (suc (suc i)) terminals.Semicolon ∷ rest),
+          (nth (suc (suc i)) terminals.Semicolon ∷ rest, (nth (suc (suc i)) terminals.Semicolon ∷ rest, name_tree (suc i) (nth (suc (suc i)) terminals.Semicolon ∷ rest), refl), (suc (suc i), refl)),
+        ),
+      ),
+    ),
+  );
 }
 completes symbols.Type = record { word = terminals.Int ∷ []; is_word = λ i rest. (a_type i (present (a_basic i)), int_tree i rest) }
 completes symbols.Declarator = record { word = terminals.Name ∷ []; is_word = λ i rest. (a_declarator i no_trees, name_tree i rest) }
@@ -72,9 +105,25 @@ completes symbols.Result = record { word = terminals.Void ∷ []; is_word = λ i
 completes symbols.Params = record { word = terminals.CloseParenthesis ∷ []; is_word = λ i rest. (no_trees, (nth i terminals.CloseParenthesis ∷ rest, refl, (i, refl))) }
 completes symbols.Param = record {
   word = terminals.Int ∷ terminals.Name ∷ [];
-  is_word = λ i rest. (a_param i None absent (a_type i (present (a_basic i))) (a_declarator (suc i) no_trees) None,
-    (omega arith, omega arith, (refl, (nth i terminals.Int ∷ nth (suc i) terminals.Name ∷ rest, refl, (nth i terminals.Int ∷ nth (suc i) terminals.Name ∷ rest, refl,
-    (nth (suc i) terminals.Name ∷ rest, int_tree i (nth (suc i) terminals.Name ∷ rest), (rest, name_tree (suc i) rest, refl)))))));
+  is_word = λ i rest. (
+    a_param i None absent (a_type i (present (a_basic i))) (a_declarator (suc i) no_trees) None,
+    (
+      omega arith,
+      omega arith,
+      (
+        refl,
+        (
+          nth i terminals.Int ∷ nth (suc i) terminals.Name ∷ rest,
+          refl,
+          (
+            nth i terminals.Int ∷ nth (suc i) terminals.Name ∷ rest,
+            refl,
+            (nth (suc i) terminals.Name ∷ rest, int_tree i (nth (suc i) terminals.Name ∷ rest), (rest, name_tree (suc i) rest, refl)),
+          ),
+        ),
+      ),
+    ),
+  );
 }
 completes symbols.MoreParams = record { word = []; is_word = λ i rest. (no_trees, refl) }
 completes symbols.Direction = record { word = []; is_word = λ i rest. (absent, refl) }
@@ -84,16 +133,37 @@ completes symbols.Attributes = record { word = []; is_word = λ i rest. (no_tree
 completes symbols.Attributed = record {
   word = terminals.Do ∷ terminals.Semicolon ∷ terminals.While ∷ terminals.OpenParenthesis ∷ terminals.Number ∷ terminals.CloseParenthesis ∷ terminals.Semicolon ∷ [];
   is_word = λ i rest attributes before h.
-    let close_mark = nth (suc (suc (suc (suc (suc i))))) terminals.CloseParenthesis ∷ nth (suc (suc (suc (suc (suc (suc i)))))) terminals.Semicolon ∷ rest in
-    let head = nth (suc (suc (suc i))) terminals.OpenParenthesis ∷ nth (suc (suc (suc (suc i)))) terminals.Number ∷ close_mark in
-    let behind = nth (suc (suc i)) terminals.While ∷ head in
-    let body = nth (suc i) terminals.Semicolon ∷ behind in
-    (a_do (first_among attributes i) attributes (a_stmt (suc i) absent) (a_primary (suc (suc (suc (suc i)))) absent absent),
-    inr (inr (inr (omega arith, omega arith,
-    (body, (i, refl, (nth i terminals.Do ∷ body, h, refl)), (behind, nothing_tree (suc i) behind,
-    (head, (suc (suc i), refl), (nth (suc (suc (suc (suc i)))) terminals.Number ∷ close_mark, (suc (suc (suc i)), refl),
-    (close_mark, number_tree (suc (suc (suc (suc i)))) n_expr close_mark (omega arith) (omega arith),
-    (nth (suc (suc (suc (suc (suc (suc i)))))) terminals.Semicolon ∷ rest, (suc (suc (suc (suc (suc i)))), refl), (suc (suc (suc (suc (suc (suc i))))), refl)))))))))));
+      let close_mark = nth (suc (suc (suc (suc (suc i))))) terminals.CloseParenthesis ∷ nth (suc (suc (suc (suc (suc (suc i)))))) terminals.Semicolon ∷ rest in
+      let head = nth (suc (suc (suc i))) terminals.OpenParenthesis ∷ nth (suc (suc (suc (suc i)))) terminals.Number ∷ close_mark in
+      let behind = nth (suc (suc i)) terminals.While ∷ head in
+      let body = nth (suc i) terminals.Semicolon ∷ behind in (
+        a_do (first_among attributes i) attributes (a_stmt (suc i) absent) (a_primary (suc (suc (suc (suc i)))) absent absent),
+        inr (inr (inr (
+          omega arith,
+          omega arith,
+          (
+            body,
+            (i, refl, (nth i terminals.Do ∷ body, h, refl)),
+            (
+              behind,
+              nothing_tree (suc i) behind,
+              (
+                head,
+                (suc (suc i), refl),
+                (
+                  nth (suc (suc (suc (suc i)))) terminals.Number ∷ close_mark,
+                  (suc (suc (suc i)), refl),
+                  (
+                    close_mark,
+                    number_tree (suc (suc (suc (suc i)))) n_expr close_mark (omega arith) (omega arith),
+                    (nth (suc (suc (suc (suc (suc (suc i)))))) terminals.Semicolon ∷ rest, (suc (suc (suc (suc (suc i)))), refl), (suc (suc (suc (suc (suc (suc i))))), refl)),
+                  ),
+                ),
+              ),
+            ),
+          ),
+        ))),
+      );
 }
 completes symbols.Block = record {
   word = terminals.OpenBrace ∷ terminals.CloseBrace ∷ [];
@@ -103,9 +173,21 @@ completes symbols.Statement = record { word = terminals.Semicolon ∷ []; is_wor
 completes symbols.Statements = record { word = []; is_word = λ i rest. (no_trees, refl) }
 completes symbols.Local = record {
   word = terminals.Int ∷ terminals.Name ∷ [];
-  is_word = λ i rest. (a_local i None (a_type i (present (a_basic i))) (more_trees (a_start (suc i) (a_declarator (suc i) no_trees) absent) no_trees),
-    (omega arith, omega arith, (refl, (nth i terminals.Int ∷ nth (suc i) terminals.Name ∷ rest, refl,
-    (nth (suc i) terminals.Name ∷ rest, int_tree i (nth (suc i) terminals.Name ∷ rest), (rest, start_tree (suc i) rest, refl))))));
+  is_word = λ i rest. (
+    a_local i None (a_type i (present (a_basic i))) (more_trees (a_start (suc i) (a_declarator (suc i) no_trees) absent) no_trees),
+    (
+      omega arith,
+      omega arith,
+      (
+        refl,
+        (
+          nth i terminals.Int ∷ nth (suc i) terminals.Name ∷ rest,
+          refl,
+          (nth (suc i) terminals.Name ∷ rest, int_tree i (nth (suc i) terminals.Name ∷ rest), (rest, start_tree (suc i) rest, refl)),
+        ),
+      ),
+    ),
+  );
 }
 completes symbols.Start = record { word = terminals.Name ∷ []; is_word = λ i rest. (a_start i (a_declarator i no_trees) absent, start_tree i rest) }
 completes symbols.Starts = record { word = []; is_word = λ i rest. (no_trees, refl) }
@@ -120,10 +202,18 @@ completes (symbols.Operand k) = record { word = terminals.Number ∷ []; is_word
 completes (symbols.Parenthesis k) = record {
   word = terminals.Number ∷ terminals.CloseParenthesis ∷ [];
   is_word = λ i rest low high index before e.
-    let bounds = less 42 k 42 low (omega arith) (omega arith) (omega arith) (omega arith) in
-    (a_primary index (present (a_primary i absent absent)) absent,
-    (bounds.0, bounds.1, (nth i terminals.Number ∷ nth (suc i) terminals.CloseParenthesis ∷ rest, e,
-    (nth (suc i) terminals.CloseParenthesis ∷ rest, number_tree i n_expr (nth (suc i) terminals.CloseParenthesis ∷ rest) (omega arith) (omega arith), (suc i, refl)))));
+      let bounds = less 42 k 42 low (omega arith) (omega arith) (omega arith) (omega arith) in (
+        a_primary index (present (a_primary i absent absent)) absent,
+        (
+          bounds.0,
+          bounds.1,
+          (
+            nth i terminals.Number ∷ nth (suc i) terminals.CloseParenthesis ∷ rest,
+            e,
+            (nth (suc i) terminals.CloseParenthesis ∷ rest, number_tree i n_expr (nth (suc i) terminals.CloseParenthesis ∷ rest) (omega arith) (omega arith), (suc i, refl)),
+          ),
+        ),
+      );
 }
 completes (symbols.Tail production k) = record {
   word = [];
@@ -162,7 +252,7 @@ completes_all (s ∷ K) =
     record {
       word = one.word ++ all.word;
       are_words = λ i.
-        subst (λ ts. Words (s ∷ K) ts []) (sym (in_front-append i one.word all.word))
-        (words_cons s K (in_front i one.word (numbered (length one.word + i) all.word)) (numbered (length one.word + i) all.word) []
-        (one.is_word i (numbered (length one.word + i) all.word)) (all.are_words (length one.word + i)));
+          subst (λ ts. Words (s ∷ K) ts []) (sym (in_front-append i one.word all.word))
+          (words_cons s K (in_front i one.word (numbered (length one.word + i) all.word)) (numbered (length one.word + i) all.word) []
+          (one.is_word i (numbered (length one.word + i) all.word)) (all.are_words (length one.word + i)));
     }

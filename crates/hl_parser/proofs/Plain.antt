@@ -195,4 +195,3 @@ plain-Primary at (Some part) (Some arguments) = ap plain_of (sym (rolls-Primary 
 pub plain-Args : (at : ℕ) (arguments : List Tree) → plain_of (variants.Args at arguments) ≡ an_args at (plain_trees arguments)
 unfolding plain_of
 plain-Args at arguments = ap plain_of (sym (rolls-Args at arguments)) ∙ fold-roll-Tree plain.Tree plain_step (Tree-F.Args at arguments)
-

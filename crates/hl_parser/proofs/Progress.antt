@@ -42,14 +42,14 @@ run_token K V i t w = ap (λ n. after_token (feed K V i t n) (λ p v. run p v (n
 pub reads_more : (front back : List Terminal) (t : Terminal) (K K' : List Symbol) (V V' : Kept) → HasRead front (t ∷ back) K V → feed K V (length front) t (next_of back) ≡ fed K' V' → HasRead (front ++ (t ∷ [])) back K' V'
 reads_more front back t K K' V V' h e = record {
   goes_on = λ w f.
-    ap (λ ts. run start (kept []) (numbered 0 ts)) (append_assoc front (t ∷ []) w)
-    ∙ (h.goes_on (t ∷ w) refl
-    ∙ (run_token K V (length front) t w
-    ∙ (ap (λ x. after_token x (λ p v. run p v (numbered (suc (length front)) w))) (ap (feed K V (length front) t) f ∙ e)
-    ∙ ap (λ n. run K' V' (numbered n w)) (sym (length-more front t)))));
+      ap (λ ts. run start (kept []) (numbered 0 ts)) (append_assoc front (t ∷ []) w)
+      ∙ (h.goes_on (t ∷ w) refl
+      ∙ (run_token K V (length front) t w
+      ∙ (ap (λ x. after_token x (λ p v. run p v (numbered (suc (length front)) w))) (ap (feed K V (length front) t) f ∙ e)
+      ∙ ap (λ n. run K' V' (numbered n w)) (sym (length-more front t)))));
   words = λ w words.
-    subst (λ ts. Words start (numbered 0 ts) []) (sym (append_assoc front (t ∷ []) w))
-    (h.words (t ∷ w) (sound_of (feed K V (length front) t (next_of back)) e (feed_sound K V (length front) t (next_of back)) w (subst (λ n. Words K' (numbered n w) []) (length-more front t) words)));
+      subst (λ ts. Words start (numbered 0 ts) []) (sym (append_assoc front (t ∷ []) w))
+      (h.words (t ∷ w) (sound_of (feed K V (length front) t (next_of back)) e (feed_sound K V (length front) t (next_of back)) w (subst (λ n. Words K' (numbered n w) []) (length-more front t) words)));
 }
   where
     sound_of : (f : Fed) → f ≡ fed K' V' → FedSound K (length front) t f → (w : List Terminal) → Words K' (numbered (suc (length front)) w) [] → Words K (numbered (length front) (t ∷ w)) []
@@ -106,11 +106,11 @@ fault_at_token front back t K V W n h unread = record {
   within = let all = length-front front (t ∷ back) in omega arith;
   begins_before = subst BeginsProgram (sym (take-front front (t ∷ back))) (begins front (t ∷ back) K V h);
   begins_not = λ below program.
-    let through : take (suc (length front)) (front ++ (t ∷ back)) ≡ front ++ (t ∷ []) =
-    ap (λ ts. take (suc (length front)) ts) (sym (append_assoc front (t ∷ []) back))
-    ∙ (ap (λ n. take n ((front ++ (t ∷ [])) ++ back)) (sym (length-more front t)) ∙ take-front (front ++ (t ∷ [])) back) in
-    let p = subst BeginsProgram through program in
-    stops front back t K V W n h unread p.0 p.1 (subst (λ ts. SpellsProgram ts p.1) (append_assoc front (t ∷ []) p.0) p.2);
+      let through : take (suc (length front)) (front ++ (t ∷ back)) ≡ front ++ (t ∷ []) =
+      ap (λ ts. take (suc (length front)) ts) (sym (append_assoc front (t ∷ []) back))
+      ∙ (ap (λ n. take n ((front ++ (t ∷ [])) ++ back)) (sym (length-more front t)) ∙ take-front (front ++ (t ∷ [])) back) in
+      let p = subst BeginsProgram through program in
+      stops front back t K V W n h unread p.0 p.1 (subst (λ ts. SpellsProgram ts p.1) (append_assoc front (t ∷ []) p.0) p.2);
 }
 
 -- the end
@@ -123,10 +123,10 @@ pub fault_at_end : (front : List Terminal) (K : List Symbol) (V W : Kept) → Ha
 unfolding run
 fault_at_end front K V W h unread = record {
   no_program = λ tree spelled.
-    let done = complete front tree spelled in
-    let goes = ap (λ ts. run start (kept []) (numbered 0 ts)) (sym (append-nil front)) ∙ h.goes_on [] refl in
-    let fails = no_end (feed K V 0 terminals.Unlisted terminals.Unlisted) (λ e. unread (same_outcome K W V 0 0 terminals.Unlisted terminals.Unlisted terminals.Unlisted ∙ e)) in
-    none_is_no_some (run start (kept []) (numbered 0 front)) (kept (v_tree tree ∷ [])) (goes ∙ fails) done;
+      let done = complete front tree spelled in
+      let goes = ap (λ ts. run start (kept []) (numbered 0 ts)) (sym (append-nil front)) ∙ h.goes_on [] refl in
+      let fails = no_end (feed K V 0 terminals.Unlisted terminals.Unlisted) (λ e. unread (same_outcome K W V 0 0 terminals.Unlisted terminals.Unlisted terminals.Unlisted ∙ e)) in
+      none_is_no_some (run start (kept []) (numbered 0 front)) (kept (v_tree tree ∷ [])) (goes ∙ fails) done;
   within = omega arith;
   begins_before = subst BeginsProgram (sym (take_all front)) (begins front [] K V h);
   begins_not = λ below program. absurd (omega arith);

@@ -28,8 +28,8 @@ plain_attribute_read at index from m n to bracket named close_mark = record {
   middle = m;
   bracket = bracket;
   reads = λ K vs done w rest.
-    name named (yields_to (acts.Empty ∷ []) n (ap (λ t. move_of symbols.AttributeArguments t (peek (rest_of n))) (peek_mark close_mark))
-    (skip close_mark (does (does rest))));
+      name named (yields_to (acts.Empty ∷ []) n (ap (λ t. move_of symbols.AttributeArguments t (peek (rest_of n))) (peek_mark close_mark))
+      (skip close_mark (does (does rest))));
 }
 
 pub attribute_read : (at index : ℕ) (first : Tree) (others : Trees) (from m n o p q r to : List Numbered) → Token at terminals.OpenBracket from m → Token index terminals.Name m n → Mark terminals.OpenParenthesis n o → Claimed n_expr first o p → CommasClaimed n_expr others p q → Mark terminals.CloseParenthesis q r → Mark terminals.CloseBracket r to → TakesAttribute at (an_attribute at index (more_trees first others)) from to
@@ -37,15 +37,15 @@ attribute_read at index first others from m n o p q r to bracket named open_mark
   middle = m;
   bracket = bracket;
   reads = λ K vs done w rest.
-    let behind : closes (peek p) ≡ true = commas_close n_expr closes others p q refl more (ap closes (peek_mark close_mark)) in
-    name named
-    (reads_at (acts.Empty ∷ [])
-    (symbols.Operand 27 ∷ symbols.Make acts.Append ∷ symbols.Expressions ∷ symbols.Skip terminals.CloseParenthesis ∷ [])
-    open_mark.1 refl
-    (closed first o p c behind _ _ _
-    (does (expressions_loop others p q more (ap closes (peek_mark close_mark)) _ _ _ _ (ap (λ t. move_of symbols.Expressions t (peek (rest_of q))) (peek_mark close_mark))
-    (skip close_mark (skip close_bracket
-    (does (does (subst (λ ts. Runs (symbols.Attributes ∷ K) (kept (v_trees (append_tree done (an_attribute at index ts)) ∷ vs)) to w) (sym (all_appended first others)) rest)))))))));
+      let behind : closes (peek p) ≡ true = commas_close n_expr closes others p q refl more (ap closes (peek_mark close_mark)) in
+      name named
+      (reads_at (acts.Empty ∷ [])
+      (symbols.Operand 27 ∷ symbols.Make acts.Append ∷ symbols.Expressions ∷ symbols.Skip terminals.CloseParenthesis ∷ [])
+      open_mark.1 refl
+      (closed first o p c behind _ _ _
+      (does (expressions_loop others p q more (ap closes (peek_mark close_mark)) _ _ _ _ (ap (λ t. move_of symbols.Expressions t (peek (rest_of q))) (peek_mark close_mark))
+      (skip close_mark (skip close_bracket
+      (does (does (subst (λ ts. Runs (symbols.Attributes ∷ K) (kept (v_trees (append_tree done (an_attribute at index ts)) ∷ vs)) to w) (sym (all_appended first others)) rest)))))))));
 }
 
 pub attribute_begins : (tree : Tree) (from to : List Numbered) → Spells n_attribute tree from to → peek from ≡ terminals.OpenBracket

@@ -372,7 +372,7 @@ statement_begins (a_stmt at (present part)) from to (a, b, (e, inr (inr (inr (in
 statement_begins (a_stmt at (present part)) from to (a, b, (e, inr (inr (inr (inr (inl h)))))) = for_begins part from to h
 statement_begins (a_stmt at (present part)) from to (a, b, (e, inr (inr (inr (inr (inr (inl h))))))) = while_begins part from to h
 statement_begins (a_stmt at (present part)) from to (a, b, (e, inr (inr (inr (inr (inr (inr (inl h)))))))) = do_begins part from to h
-statement_begins (a_stmt at (present part)) from to (a, b, (e, inr (inr (inr (inr (inr (inr (inr (m, h, semicolon)))))))) ) = jump_begins part from m h
+statement_begins (a_stmt at (present part)) from to (a, b, (e, inr (inr (inr (inr (inr (inr (inr (m, h, semicolon))))))))) = jump_begins part from m h
 statement_begins tree from to h = let n = number_is tree n_stmt from to h in absurd (omega arith)
 
 pub statements_loop : (trees : Trees) (from to : List Numbered) → EachClaimed n_stmt trees from to → Loops symbols.Statements trees from to

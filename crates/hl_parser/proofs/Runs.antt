@@ -72,16 +72,16 @@ unfolding run
 led_by {K = K} {V = V} other first more [] e never h =
     record {
       is_run =
-        ap (λ m. at_end (after_move m 0 K V (λ v. feed K v 0 terminals.Unlisted terminals.Unlisted))) e
-        ∙ ap at_end (led_move first more (move_at other []) 0 K V (λ v. feed K v 0 terminals.Unlisted terminals.Unlisted) (λ v. feed (more ++ K) v 0 terminals.Unlisted terminals.Unlisted) never)
-        ∙ h.is_run
+          ap (λ m. at_end (after_move m 0 K V (λ v. feed K v 0 terminals.Unlisted terminals.Unlisted))) e
+          ∙ ap at_end (led_move first more (move_at other []) 0 K V (λ v. feed K v 0 terminals.Unlisted terminals.Unlisted) (λ v. feed (more ++ K) v 0 terminals.Unlisted terminals.Unlisted) never)
+          ∙ h.is_run;
     }
 led_by {K = K} {V = V} other first more (nth i t ∷ m) e never h =
     record {
       is_run =
-        ap (λ x. after_token (after_move x i K V (λ v. feed K v i t (peek m))) (λ p v. run p v m)) e
-        ∙ ap (λ x. after_token x (λ p v. run p v m)) (led_move first more (move_of other t (peek m)) i K V (λ v. feed K v i t (peek m)) (λ v. feed (more ++ K) v i t (peek m)) never)
-        ∙ h.is_run
+          ap (λ x. after_token (after_move x i K V (λ v. feed K v i t (peek m))) (λ p v. run p v m)) e
+          ∙ ap (λ x. after_token x (λ p v. run p v m)) (led_move first more (move_of other t (peek m)) i K V (λ v. feed K v i t (peek m)) (λ v. feed (more ++ K) v i t (peek m)) never)
+          ∙ h.is_run;
     }
 
 pub followed_by : {s : Symbol} {K : List Symbol} {V : Kept} {w : Option Kept} (other : Symbol) (more : List Symbol) (ts : List Numbered) → move_at s ts ≡ followed (move_at other ts) more → NeverYields (move_at other ts) → Runs (other ∷ (more ++ K)) V ts w → Runs (s ∷ K) V ts w
@@ -89,16 +89,16 @@ unfolding run
 followed_by {K = K} {V = V} other more [] e never h =
     record {
       is_run =
-        ap (λ m. at_end (after_move m 0 K V (λ v. feed K v 0 terminals.Unlisted terminals.Unlisted))) e
-        ∙ ap at_end (followed_move more (move_at other []) 0 K V (λ v. feed K v 0 terminals.Unlisted terminals.Unlisted) (λ v. feed (more ++ K) v 0 terminals.Unlisted terminals.Unlisted) never)
-        ∙ h.is_run
+          ap (λ m. at_end (after_move m 0 K V (λ v. feed K v 0 terminals.Unlisted terminals.Unlisted))) e
+          ∙ ap at_end (followed_move more (move_at other []) 0 K V (λ v. feed K v 0 terminals.Unlisted terminals.Unlisted) (λ v. feed (more ++ K) v 0 terminals.Unlisted terminals.Unlisted) never)
+          ∙ h.is_run;
     }
 followed_by {K = K} {V = V} other more (nth i t ∷ m) e never h =
     record {
       is_run =
-        ap (λ x. after_token (after_move x i K V (λ v. feed K v i t (peek m))) (λ p v. run p v m)) e
-        ∙ ap (λ x. after_token x (λ p v. run p v m)) (followed_move more (move_of other t (peek m)) i K V (λ v. feed K v i t (peek m)) (λ v. feed (more ++ K) v i t (peek m)) never)
-        ∙ h.is_run
+          ap (λ x. after_token (after_move x i K V (λ v. feed K v i t (peek m))) (λ p v. run p v m)) e
+          ∙ ap (λ x. after_token x (λ p v. run p v m)) (followed_move more (move_of other t (peek m)) i K V (λ v. feed K v i t (peek m)) (λ v. feed (more ++ K) v i t (peek m)) never)
+          ∙ h.is_run;
     }
 
 -- a symbol that is another one there

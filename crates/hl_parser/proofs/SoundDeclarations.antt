@@ -14,7 +14,6 @@ use Rattle.hl_parser.proofs.Moves.{Joins, if_false, if_true, joins_all, joins_ca
 use Rattle.hl_parser.proofs.Opening.{last_of_expression}
 use Rattle.hl_parser.proofs.Terminals.{by_every, not_true, same_is}
 use Rattle.hl_parser.proofs.Words.{AttributedWord, BracesEnd, Control, OperandWord, ParenthesisWord, SomeMaybe, SomeOption, SomeTrees, Sound, Spelled, TailWord, Word, Words, sound_followed, sound_if, sound_is, sound_known, sound_led, sound_only, sound_reads, sound_refuses, sound_yields}
-
 use Rattle.hl_parser.proofs.Soundness.{end_at, sound_declarator, sound_operand, sound_type}
 
 -- ---- buffers
@@ -146,9 +145,10 @@ const_param_row i m to (n, (direction, hd), (o, (type, ht), (p, (declarator, hn)
 
 direction_param_row : (t : Terminal) → is_direction t ≡ true → (i : ℕ) (m to : List Numbered) → Words (symbols.Make acts.Direction ∷ symbols.Type ∷ symbols.Declarator ∷ symbols.Semantic ∷ symbols.Make acts.Param ∷ []) m to → Spelled n_param (nth i t ∷ m) to
 direction_param_row t c i m to (o, (type, ht), (p, (declarator, hn), (q, (semantic, hs), e))) =
-    end_at (Spelled n_param) e
-    (a_param i None (present (a_direction i)) type declarator semantic,
-    (omega arith, omega arith, (refl, (nth i t ∷ m, refl, (m, (omega arith, omega arith, (t, c, refl)), (o, ht, (p, hn, hs)))))))
+    end_at (Spelled n_param) e (
+      a_param i None (present (a_direction i)) type declarator semantic,
+      (omega arith, omega arith, (refl, (nth i t ∷ m, refl, (m, (omega arith, omega arith, (t, c, refl)), (o, ht, (p, hn, hs)))))),
+    )
 
 type_param_row : (from m to : List Numbered) → Spelled n_type from m → Words (symbols.Declarator ∷ symbols.Semantic ∷ symbols.Make acts.Param ∷ []) m to → Spelled n_param from to
 type_param_row from m to (type, ht) (p, (declarator, hn), (q, (semantic, hs), e)) =
@@ -226,7 +226,7 @@ constant_row : (i : ℕ) (m to : List Numbered) → Words (symbols.Skip terminal
 constant_row i m to (n, constant, (o, (type, ht), (p, (declarator, hd), (q, equals, (r, (init, hi), (s, semicolon, e)))))) =
     end_at (Spelled n_item) e
     (item_of (a_constant i type declarator init) (nth i terminals.Static ∷ m) s
-    (inr (inr (inr (inl (omega arith, omega arith, (m, refl, (n, constant, (o, ht, (p, hd, (q, equals, (r, hi, semicolon)))))))))))) 
+    (inr (inr (inr (inl (omega arith, omega arith, (m, refl, (n, constant, (o, ht, (p, hd, (q, equals, (r, hi, semicolon))))))))))))
 
 pub sound_item : (t : Terminal) → Sound (Spelled n_item) t (on_item t)
 sound_item t =

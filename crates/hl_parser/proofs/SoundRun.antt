@@ -60,9 +60,10 @@ run_sound (nth i t ∷ m) K V v e =
 
 -- what the start stands for is a program
 pub start_program : (ts : List Numbered) → Words start ts [] → (tree : Tree) × Spells n_program tree ts []
-start_program ts (m, (item, h), (n, (items, hs), e)) =
-    (a_program (at_of item) (more_trees item items),
-    (omega arith, omega arith, (refl, (m, h, subst (λ x. Rattle.hl_parser.specs.Grammar.Each Rattle.hl_parser.specs.Grammar.n_item items m x) e hs))))
+start_program ts (m, (item, h), (n, (items, hs), e)) = (
+  a_program (at_of item) (more_trees item items),
+  (omega arith, omega arith, (refl, (m, h, subst (λ x. Rattle.hl_parser.specs.Grammar.Each Rattle.hl_parser.specs.Grammar.n_item items m x) e hs))),
+)
 
 pub accepted : (tokens : List Terminal) (v : Kept) → run start (kept []) (numbered 0 tokens) ≡ Some v → (tree : Tree) × SpellsProgram tokens tree
 accepted tokens v e = start_program (numbered 0 tokens) (run_sound (numbered 0 tokens) start (kept []) v e)

@@ -14,7 +14,6 @@ use Rattle.hl_parser.proofs.Moves.{Joins, if_false, if_true, joins_all, joins_ca
 use Rattle.hl_parser.proofs.Opening.{last_of_expression}
 use Rattle.hl_parser.proofs.Terminals.{by_every, not_true, same_is}
 use Rattle.hl_parser.proofs.Words.{AttributedWord, BracesEnd, Control, OperandWord, ParenthesisWord, SomeMaybe, SomeOption, SomeTrees, Sound, Spelled, TailWord, Word, Words, sound_as, sound_followed, sound_if, sound_is, sound_known, sound_led, sound_only, sound_reads, sound_refuses, sound_yields}
-
 use Rattle.hl_parser.proofs.ReadStatements.{local_never}
 use Rattle.hl_parser.proofs.Soundness.{end_at, sound_args, sound_declarator, sound_declarators, sound_expressions, sound_lengths, sound_member, sound_members, sound_method_arguments, sound_operand, sound_parenthesis, sound_tail, sound_type}
 use Rattle.hl_parser.proofs.SoundDeclarations.{AttributesParts, attributes_parts, sound_attribute_arguments, sound_attributes, sound_direction, sound_init, sound_inits, sound_item, sound_items, sound_more_params, sound_param, sound_params, sound_register, sound_result, sound_semantic, sound_space}
@@ -82,32 +81,45 @@ sound_else t =
 if_row : (i : ℕ) (m to : List Numbered) → Words (symbols.Skip terminals.OpenParenthesis ∷ symbols.Operand 27 ∷ symbols.Skip terminals.CloseParenthesis ∷ symbols.Statement ∷ symbols.Else ∷ symbols.Make acts.If ∷ []) m to → AttributedWord (nth i terminals.If ∷ m) to
 if_row i m to (n, open_mark, (o, h, (p, close_mark, (q, (consequent, hs), (r, (alternative, ha), e))))) attributes before hb =
     let condition = h (omega arith) (omega arith) in
-    end_at (λ f l. (tree : Tree) × Control tree f l) e
-    (an_if (first_among attributes i) attributes condition.0 consequent alternative,
-    inl (omega arith, omega arith, (m, (i, refl, (nth i terminals.If ∷ m, hb, refl)), (n, open_mark, (o, condition.1, (p, close_mark, (q, hs, ha)))))))
+    end_at (λ f l. (tree : Tree) × Control tree f l) e (
+      an_if (first_among attributes i) attributes condition.0 consequent alternative,
+      inl (omega arith, omega arith, (m, (i, refl, (nth i terminals.If ∷ m, hb, refl)), (n, open_mark, (o, condition.1, (p, close_mark, (q, hs, ha)))))),
+    )
 
 for_row : (i : ℕ) (m to : List Numbered) → Words (symbols.Skip terminals.OpenParenthesis ∷ symbols.First ∷ symbols.Skip terminals.Semicolon ∷ symbols.Optional ∷ symbols.Skip terminals.Semicolon ∷ symbols.Optional ∷ symbols.Skip terminals.CloseParenthesis ∷ symbols.Statement ∷ symbols.Make acts.For ∷ []) m to → AttributedWord (nth i terminals.For ∷ m) to
 for_row i m to (n, open_mark, (o, (first, hf), (p, semicolon, (q, (condition, hc), (r, second_semicolon, (s, (step, hs), (t, close_mark, (u, (body, ho), e)))))))) attributes before hb =
-    end_at (λ f l. (tree : Tree) × Control tree f l) e
-    (a_for (first_among attributes i) attributes first condition step body,
-    inr (inl (omega arith, omega arith,
-    (m, (i, refl, (nth i terminals.For ∷ m, hb, refl)), (n, open_mark, (o, hf, (p, semicolon, (q, hc, (r, second_semicolon, (s, hs, (t, close_mark, ho)))))))))))
+    end_at (λ f l. (tree : Tree) × Control tree f l) e (
+      a_for (first_among attributes i) attributes first condition step body,
+      inr (inl (
+        omega arith,
+        omega arith,
+        (m, (i, refl, (nth i terminals.For ∷ m, hb, refl)), (n, open_mark, (o, hf, (p, semicolon, (q, hc, (r, second_semicolon, (s, hs, (t, close_mark, ho)))))))),
+      )),
+    )
 
 while_row : (i : ℕ) (m to : List Numbered) → Words (symbols.Skip terminals.OpenParenthesis ∷ symbols.Operand 27 ∷ symbols.Skip terminals.CloseParenthesis ∷ symbols.Statement ∷ symbols.Make acts.While ∷ []) m to → AttributedWord (nth i terminals.While ∷ m) to
 while_row i m to (n, open_mark, (o, h, (p, close_mark, (q, (body, ho), e)))) attributes before hb =
     let condition = h (omega arith) (omega arith) in
-    end_at (λ f l. (tree : Tree) × Control tree f l) e
-    (a_while (first_among attributes i) attributes condition.0 body,
-    inr (inr (inl (omega arith, omega arith,
-    (m, (i, refl, (nth i terminals.While ∷ m, hb, refl)), (n, open_mark, (o, condition.1, (p, close_mark, ho))))))))
+    end_at (λ f l. (tree : Tree) × Control tree f l) e (
+      a_while (first_among attributes i) attributes condition.0 body,
+      inr (inr (inl (
+        omega arith,
+        omega arith,
+        (m, (i, refl, (nth i terminals.While ∷ m, hb, refl)), (n, open_mark, (o, condition.1, (p, close_mark, ho)))),
+      ))),
+    )
 
 do_row : (i : ℕ) (m to : List Numbered) → Words (symbols.Statement ∷ symbols.Skip terminals.While ∷ symbols.Skip terminals.OpenParenthesis ∷ symbols.Operand 27 ∷ symbols.Skip terminals.CloseParenthesis ∷ symbols.Skip terminals.Semicolon ∷ symbols.Make acts.Do ∷ []) m to → AttributedWord (nth i terminals.Do ∷ m) to
 do_row i m to (n, (body, ho), (o, word, (p, open_mark, (q, h, (r, close_mark, (s, semicolon, e)))))) attributes before hb =
     let condition = h (omega arith) (omega arith) in
-    end_at (λ f l. (tree : Tree) × Control tree f l) e
-    (a_do (first_among attributes i) attributes body condition.0,
-    inr (inr (inr (omega arith, omega arith,
-    (m, (i, refl, (nth i terminals.Do ∷ m, hb, refl)), (n, ho, (o, word, (p, open_mark, (q, condition.1, (r, close_mark, semicolon))))))))))
+    end_at (λ f l. (tree : Tree) × Control tree f l) e (
+      a_do (first_among attributes i) attributes body condition.0,
+      inr (inr (inr (
+        omega arith,
+        omega arith,
+        (m, (i, refl, (nth i terminals.Do ∷ m, hb, refl)), (n, ho, (o, word, (p, open_mark, (q, condition.1, (r, close_mark, semicolon)))))),
+      ))),
+    )
 
 sound_attributed : (t : Terminal) → Sound AttributedWord t (on_attributed t)
 sound_attributed t =

@@ -104,4 +104,3 @@ as_jump tree from to c = let n = number_is tree n_jump from to c.spelled in absu
 pub as_args : (tree : Tree) (from to : List Numbered) → Claimed n_args tree from to → (Takes symbols.Args tree) from to
 as_args (an_args at arguments) from to c = c.claim
 as_args tree from to c = let n = number_is tree n_args from to c.spelled in absurd (omega arith)
-

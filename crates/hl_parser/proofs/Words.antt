@@ -165,8 +165,8 @@ sound_is {step = step} {x = x} {y = y} t u h g =
 pub sound_followed : {step other : Step} {t : Terminal} (x : Move) (more : List Symbol) → Sound other t x → ((from m to : List Numbered) → other from m → Words more m to → step from to) → Sound step t (followed x more)
 sound_followed {t = t} (reads done pending) more h build = record {
   sound = λ i m to words.
-    let s = words_split pending more m to words in
-    build (nth i t ∷ m) s.middle to (h.sound i m s.middle s.first) s.rest;
+      let s = words_split pending more m to words in
+      build (nth i t ∷ m) s.middle to (h.sound i m s.middle s.first) s.rest;
 }
 sound_followed (yields done) more h build = sound_refuses
 sound_followed refuses more h build = sound_refuses

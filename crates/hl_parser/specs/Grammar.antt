@@ -228,70 +228,103 @@ SemanticIs (Some name) = Mark terminals.Colon then Token name terminals.Name
 
 abbrev pub n_program : ℕ
 n_program = 1
+
 abbrev pub n_item : ℕ
 n_item = 2
+
 abbrev pub n_struct : ℕ
 n_struct = 3
+
 abbrev pub n_member : ℕ
 n_member = 4
+
 abbrev pub n_type : ℕ
 n_type = 5
+
 abbrev pub n_basic : ℕ
 n_basic = 6
+
 abbrev pub n_declarator : ℕ
 n_declarator = 7
+
 abbrev pub n_buffer : ℕ
 n_buffer = 8
+
 abbrev pub n_kind : ℕ
 n_kind = 9
+
 abbrev pub n_shared : ℕ
 n_shared = 10
+
 abbrev pub n_constant : ℕ
 n_constant = 11
+
 abbrev pub n_init : ℕ
 n_init = 12
+
 abbrev pub n_function : ℕ
 n_function = 13
+
 abbrev pub n_result : ℕ
 n_result = 14
+
 abbrev pub n_param : ℕ
 n_param = 15
+
 abbrev pub n_direction : ℕ
 n_direction = 16
+
 abbrev pub n_attribute : ℕ
 n_attribute = 17
+
 abbrev pub n_block : ℕ
 n_block = 18
+
 abbrev pub n_stmt : ℕ
 n_stmt = 19
+
 abbrev pub n_local : ℕ
 n_local = 20
+
 abbrev pub n_start : ℕ
 n_start = 21
+
 abbrev pub n_if : ℕ
 n_if = 22
+
 abbrev pub n_for : ℕ
 n_for = 23
+
 abbrev pub n_while : ℕ
 n_while = 24
+
 abbrev pub n_do : ℕ
 n_do = 25
+
 abbrev pub n_jump : ℕ
 n_jump = 26
+
 abbrev pub n_expr : ℕ
 n_expr = 27
+
 abbrev pub n_choice : ℕ
 n_choice = 29
+
 abbrev pub n_or : ℕ
 n_or = 30
+
 abbrev pub n_product : ℕ
 n_product = 39
+
 abbrev pub n_unary : ℕ
 n_unary = 40
+
 abbrev pub n_postfix : ℕ
 n_postfix = 41
+
 abbrev pub n_primary : ℕ
 n_primary = 42
+
 abbrev pub n_args : ℕ
 n_args = 43
 
@@ -313,60 +346,48 @@ Repeats production step from to = (n_or ≤ production) × (production ≤ n_pro
 abbrev mutual
   -- as a production, the tree is spelled by the tokens from one place to another
   pub Spells : ℕ → Tree → Step
-
   -- 1. program = item { item }
   Spells asked (a_program at no_trees) = Never
   Spells asked (a_program at (more_trees item items)) =
       As asked n_program (At at (at_of item) (Spells n_item item then Each n_item items))
-
   -- 2. item = struct | buffer | shared | constant | function
   Spells asked (an_item at item) =
       As asked n_item (At at (at_of item)
       (Spells n_struct item or Spells n_buffer item or Spells n_shared item or Spells n_constant item or Spells n_function item))
-
   -- 3. struct = `struct` Name `{` member { member } `}` `;`
   Spells asked (a_struct at name members) =
       As asked n_struct
       (Token at terminals.Struct then Token name terminals.Name then Mark terminals.OpenBrace then Several n_member members
       then Mark terminals.CloseBrace then Mark terminals.Semicolon)
-
   -- 4. member = type declarator { `,` declarator } `;`
   Spells asked (a_member at type declarators) =
       As asked n_member (At at (at_of type)
       (Spells n_type type then Listed n_declarator declarators then Mark terminals.Semicolon))
-
   -- 5. type = basic | Name
   Spells asked (a_type at (present basic)) = As asked n_type (At at (at_of basic) (Spells n_basic basic))
   Spells asked (a_type at absent) = As asked n_type (Token at terminals.Name)
-
   -- 6. basic = one of the words `bool` to `uint4`
   Spells asked (a_basic at) = As asked n_basic (Word at is_basic)
-
   -- 7. declarator = Name { `[` expr `]` }
   Spells asked (a_declarator at lengths) = As asked n_declarator (Token at terminals.Name then Lengths lengths)
-
   -- 8. buffer = kind Name [ `:` `register` `(` Name [ `,` Name ] `)` ] `;`
   Spells asked (a_buffer at kind name register space) =
       As asked n_buffer (At at (at_of kind)
       (Spells n_kind kind then Token name terminals.Name then RegisterIs register space then Mark terminals.Semicolon))
-
   -- 9. kind = `ByteAddressBuffer` | `RWByteAddressBuffer` | `StructuredBuffer` `<` type `>` | `RWStructuredBuffer` `<` type `>`
   Spells asked (a_kind at absent) = As asked n_kind (Word at is_raw_kind)
   Spells asked (a_kind at (present element)) =
       As asked n_kind
       (Word at is_element_kind then Mark terminals.Less then Spells n_type element then Mark terminals.Greater)
-
   -- 10. shared = `groupshared` type declarator { `,` declarator } `;`
   Spells asked (a_shared at type declarators) =
       As asked n_shared
       (Token at terminals.Groupshared then Spells n_type type then Listed n_declarator declarators then Mark terminals.Semicolon)
-
   -- 11. constant = `static` `const` type declarator `=` init `;`
   Spells asked (a_constant at type declarator init) =
       As asked n_constant
       (Token at terminals.Static then Mark terminals.Const then Spells n_type type then Spells n_declarator declarator
       then Mark terminals.Equals then Spells n_init init then Mark terminals.Semicolon)
-
   -- 12. init = expr | `{` init { `,` init } [ `,` ] `}`
   Spells asked (an_init at (present value) no_trees) = As asked n_init (At at (at_of value) (Spells n_expr value))
   Spells asked (an_init at (present value) (more_trees part parts)) = Never
@@ -374,37 +395,30 @@ abbrev mutual
       As asked n_init
       (Token at terminals.OpenBrace then Listed n_init parts
       then (Mark terminals.CloseBrace or (Mark terminals.Comma then Mark terminals.CloseBrace)))
-
   -- 13. function = { attribute } result Name `(` [ param { `,` param } ] `)` block
   Spells asked (a_function at attributes result name params block) =
       As asked n_function (At at (first_among attributes (at_of result))
       (Each n_attribute attributes then Spells n_result result then Token name terminals.Name
       then Mark terminals.OpenParenthesis then PerhapsListed n_param params then Mark terminals.CloseParenthesis
       then Spells n_block block))
-
   -- 14. result = `void` | type
   Spells asked (a_result at absent) = As asked n_result (Token at terminals.Void)
   Spells asked (a_result at (present type)) = As asked n_result (At at (at_of type) (Spells n_type type))
-
   -- 15. param = [ `const` ] [ direction ] type declarator [ `:` Name ]
   Spells asked (a_param at constant direction type declarator semantic) =
       As asked n_param (At at (first_of constant (first_if direction (at_of type)))
       (PerhapsToken constant terminals.Const then Perhaps n_direction direction then Spells n_type type
       then Spells n_declarator declarator then SemanticIs semantic))
-
   -- 16. direction = `in` | `out` | `inout`
   Spells asked (a_direction at) = As asked n_direction (Word at is_direction)
-
   -- 17. attribute = `[` Name [ `(` expr { `,` expr } `)` ] `]`
   Spells asked (an_attribute at name arguments) =
       As asked n_attribute
       (Token at terminals.OpenBracket then Token name terminals.Name then AttributeArguments arguments
       then Mark terminals.CloseBracket)
-
   -- 18. block = `{` { stmt } `}`
   Spells asked (a_block at statements) =
       As asked n_block (Token at terminals.OpenBrace then Each n_stmt statements then Mark terminals.CloseBrace)
-
   -- 19. stmt = block | local `;` | expr `;` | `;` | if | for | while | do | jump `;`
   Spells asked (a_stmt at (present part)) =
       As asked n_stmt (At at (at_of part)
@@ -412,70 +426,58 @@ abbrev mutual
       or (Spells n_expr part then Mark terminals.Semicolon) or Spells n_if part or Spells n_for part
       or Spells n_while part or Spells n_do part or (Spells n_jump part then Mark terminals.Semicolon)))
   Spells asked (a_stmt at absent) = As asked n_stmt (Token at terminals.Semicolon)
-
   -- 20. local = [ `const` ] type start { `,` start }
   Spells asked (a_local at constant type starts) =
       As asked n_local (At at (first_of constant (at_of type))
       (PerhapsToken constant terminals.Const then Spells n_type type then Listed n_start starts))
-
   -- 21. start = declarator [ `=` init ]
   Spells asked (a_start at declarator init) =
       As asked n_start (At at (at_of declarator) (Spells n_declarator declarator then InitIs init))
-
   -- 22. if = { attribute } `if` `(` expr `)` stmt [ `else` stmt ]
   Spells asked (an_if at attributes condition consequent alternative) =
       As asked n_if
       (Headed at attributes (Each n_attribute attributes) terminals.If then Mark terminals.OpenParenthesis
       then Spells n_expr condition then Mark terminals.CloseParenthesis then Spells n_stmt consequent then ElseIs alternative)
-
   -- 23. for = { attribute } `for` `(` [ local | expr ] `;` [ expr ] `;` [ expr ] `)` stmt
   Spells asked (a_for at attributes first condition step body) =
       As asked n_for
       (Headed at attributes (Each n_attribute attributes) terminals.For then Mark terminals.OpenParenthesis
       then FirstIs first then Mark terminals.Semicolon then Perhaps n_expr condition then Mark terminals.Semicolon
       then Perhaps n_expr step then Mark terminals.CloseParenthesis then Spells n_stmt body)
-
   -- 24. while = { attribute } `while` `(` expr `)` stmt
   Spells asked (a_while at attributes condition body) =
       As asked n_while
       (Headed at attributes (Each n_attribute attributes) terminals.While then Mark terminals.OpenParenthesis
       then Spells n_expr condition then Mark terminals.CloseParenthesis then Spells n_stmt body)
-
   -- 25. do = { attribute } `do` stmt `while` `(` expr `)` `;`
   Spells asked (a_do at attributes body condition) =
       As asked n_do
       (Headed at attributes (Each n_attribute attributes) terminals.Do then Spells n_stmt body then Mark terminals.While
       then Mark terminals.OpenParenthesis then Spells n_expr condition then Mark terminals.CloseParenthesis
       then Mark terminals.Semicolon)
-
   -- 26. jump = `break` | `continue` | `return` [ expr ]
   Spells asked (a_jump at absent) = As asked n_jump (Word at is_jump)
   Spells asked (a_jump at (present value)) = As asked n_jump (Token at terminals.Return then Spells n_expr value)
-
   -- 27. expr = choice [ assign expr ]
   -- 28. assign = `=` or one of the ten compound marks
   Spells asked (an_expr at left mark right) =
       As asked n_expr (At at (at_of left) (Spells n_choice left then Word mark is_assign then Spells n_expr right))
-
   -- 29. choice = or [ `?` expr `:` choice ]
   Spells asked (a_choice at condition consequent alternative) =
       As asked n_choice (At at (at_of condition)
       (Spells n_or condition then Mark terminals.Question then Spells n_expr consequent then Mark terminals.Colon
       then Spells n_choice alternative))
-
   -- 30. to 39. of `operator_of`: the production of the number, associated to the left, so that what stands to the left
   -- of its last operator is the production itself, and to the right the next production
   Spells asked (a_binary production at left mark right) =
       Repeats production (As asked production (At at (at_of left)
       (Spells production left then Operator mark production then Spells (suc production) right)))
-
   -- 40. unary = (`+` | `-` | `!` | `~` | `++` | `--`) unary | `(` basic `)` unary | postfix
   Spells asked (a_unary at absent operand) = As asked n_unary (Word at is_prefix then Spells n_unary operand)
   Spells asked (a_unary at (present basic) operand) =
       As asked n_unary
       (Token at terminals.OpenParenthesis then Spells n_basic basic then Mark terminals.CloseParenthesis
       then Spells n_unary operand)
-
   -- 41. postfix = primary { `.` Name [ args ] | `[` expr `]` | `++` | `--` }
   Spells asked (a_postfix at operand mark (Some name) absent) =
       As asked n_postfix (At at (at_of operand)
@@ -488,7 +490,6 @@ abbrev mutual
       (Spells n_postfix operand then Token mark terminals.OpenBracket then Spells n_expr index then Mark terminals.CloseBracket))
   Spells asked (a_postfix at operand mark None absent) =
       As asked n_postfix (At at (at_of operand) (Spells n_postfix operand then Word mark is_step))
-
   -- 42. primary = Number | `true` | `false` | Name [ args ] | basic args | `(` expr `)`
   Spells asked (a_primary at absent absent) = As asked n_primary (Word at is_word)
   Spells asked (a_primary at absent (present arguments)) =
@@ -498,7 +499,6 @@ abbrev mutual
   Spells asked (a_primary at (present inner) absent) =
       As asked n_primary
       (Token at terminals.OpenParenthesis then Spells n_expr inner then Mark terminals.CloseParenthesis)
-
   -- 43. args = `(` [ expr { `,` expr } ] `)`
   Spells asked (an_args at arguments) =
       As asked n_args

@@ -1,5 +1,5 @@
 -- The machine that reads tokens: what is still to be read is a stack of symbols, and what is read a stack of values.
-use Rattle.std.specs.Prelude.{ℕ, suc, ◌-◌, Bool, true, false, ◌&&◌, ◌||◌, not, nat_le, nat_lt, eqb, if◌then◌else◌, List, [], ◌∷◌, ◌++◌, Option, None, Some}
+use Rattle.std.specs.Prelude.{ℕ, suc, ◌-◌, Bool, true, false, ◌&&◌, ◌||◌, not, nat_le, nat_lt, eqb, ◌==◌, if◌then◌else◌, List, [], ◌∷◌, ◌++◌, Option, None, Some}
 use Rattle.hl_lexer.specs.declared.terminal.Terminal.{Terminal}
 use Rattle.hl_lexer.specs.declared.terminal.Terminal.TheVariants as terminals
 use Rattle.hl_parser.specs.declared.act.Act.{Act}
@@ -347,6 +347,12 @@ on_parenthesis k t next =
     ∷ symbols.Tail 40 k ∷ [])
     else followed (on_operand 27 t next)
     (symbols.Skip terminals.CloseParenthesis ∷ symbols.Make acts.Parentheses ∷ symbols.Tail 42 k ∷ [])
+
+-- an operator that repeats
+abbrev pub on_repeating : ℕ → Terminal → Move
+on_repeating k t =
+    if operator_of t == 0 then refuses
+    else reads (acts.Here ∷ []) (symbols.Operand (suc (operator_of t)) ∷ symbols.Make (acts.Binary (operator_of t)) ∷ symbols.Tail (operator_of t) k ∷ [])
 
 -- an operator behind an operand, where an expression of at least a level is read
 abbrev pub on_operator : ℕ → Terminal → Move

@@ -5,5 +5,4 @@ ghost use Rattle.hl_parser.specs.Laws.{AtMostOneTree};
 /// Tokens spell at most one tree.
 pub fn at_most_one_tree()
     ensures { AtMostOneTree }
-{
-}
+{}

@@ -3,9 +3,12 @@
 
 mod act;
 mod class;
+mod declarations;
+mod expressions;
 pub mod laws;
 mod parser;
 mod pending;
+mod statements;
 mod symbol;
 mod tree;
 mod values;

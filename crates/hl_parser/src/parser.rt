@@ -1,11 +1,10 @@
 //! The machine that reads tokens.
 
-ghost use Rattle.std.specs.Prelude.{◌≡◌, [], ◌∷◌, IfOk, OnOk};
-ghost use Rattle.hl_parser.specs.Held.{Did};
-ghost use Rattle.hl_parser.specs.Machine.{reads, yields, refuses, on_type, on_member, on_declarators};
+ghost use Rattle.std.specs.Prelude.{◌≡◌, ◌++◌, IfOk, OnOk};
+ghost use Rattle.hl_parser.specs.Held.{Did, Performed};
+ghost use Rattle.hl_parser.specs.Machine.{reads, yields};
 
 use crate::act::Act;
-use crate::class::is_basic;
 use crate::pending::Pending;
 use crate::symbol::Symbol;
 use crate::values::Values;
@@ -45,7 +44,12 @@ pub(crate) struct Parser {
 
 impl Parser {
     /// Reads a token, with symbols still to be read in the place of one.
-    pub(crate) fn reads(&mut self, look: Look, done: &[Act], more: &[Symbol]) -> Result<Outcome, NoMemory>
+    pub(crate) fn reads(
+        &mut self,
+        look: Look,
+        done: &[Act],
+        more: &[Symbol],
+    ) -> Result<Outcome, NoMemory>
         ensures { IfOk result (λ outcome. Did (reads done.now more.now) look.at self.old self.new outcome) }
     {
         self.values.perform_all(done, look.at)?;
@@ -61,24 +65,20 @@ impl Parser {
         Ok(Outcome::Yields)
     }
 
-    /// A type.
-    pub(crate) fn on_type(&mut self, look: Look) -> Result<Outcome, NoMemory>
-        ensures { IfOk result (λ outcome. Did (on_type look.terminal) look.at self.old self.new outcome) }
+    /// Does acts, and puts symbols in front of those that are still to be read.
+    ///
+    /// # Errors
+    /// `NoMemory` where memory is refused.
+    pub(crate) fn lead(
+        &mut self,
+        look: Look,
+        first: &[Act],
+        more: &[Symbol],
+    ) -> Result<(), NoMemory>
+        ensures pending { OnOk result (self.new.pending ≡ more.now ++ self.old.pending) }
+        ensures values { OnOk result (Performed first.now look.at self.old.values self.new.values) }
     {
-        match look.terminal {
-            Terminal::Name => self.reads(look, &[Act::Here], &[Symbol::Make(Act::NameType)]),
-            terminal if is_basic(terminal) => self.reads(look, &[Act::Here], &[Symbol::Make(Act::Basic), Symbol::Make(Act::BasicType)]),
-            _ => Ok(Outcome::Refuses),
-        }
-    }
-
-    /// Members.
-    pub(crate) fn on_declarators(&mut self, look: Look) -> Result<Outcome, NoMemory>
-        ensures { IfOk result (λ outcome. Did (on_declarators look.terminal) look.at self.old self.new outcome) }
-    {
-        match look.terminal {
-            Terminal::Comma => self.reads(look, &[], &[Symbol::Declarator, Symbol::Make(Act::Append), Symbol::Declarators]),
-            _ => self.yields(look, &[]),
-        }
+        self.values.perform_all(first, look.at)?;
+        self.pending.push(more)
     }
 }

@@ -13,9 +13,15 @@ pub type Trees = Items<Tree>;
 #[derive(Debug, Drop)]
 pub enum Tree {
     /// At least one item.
-    Program { at: usize, items: Trees },
+    Program {
+        at: usize,
+        items: Trees,
+    },
     /// A struct, a buffer, groupshared variables, a constant or a function.
-    Item { at: usize, item: Boxed<Tree> },
+    Item {
+        at: usize,
+        item: Boxed<Tree>,
+    },
     /// A struct with its name and at least one member.
     Struct {
         at: usize,
@@ -34,9 +40,14 @@ pub enum Tree {
         basic: Option<Boxed<Tree>>,
     },
     /// The word `at` of a scalar or a vector.
-    Basic { at: usize },
+    Basic {
+        at: usize,
+    },
     /// The declared name `at`, with the lengths of an array.
-    Declarator { at: usize, lengths: Trees },
+    Declarator {
+        at: usize,
+        lengths: Trees,
+    },
     /// A buffer with its name, and where they are given its register and its space.
     Buffer {
         at: usize,
@@ -93,7 +104,9 @@ pub enum Tree {
         semantic: Option<usize>,
     },
     /// The word `at`: `in`, `out` or `inout`.
-    Direction { at: usize },
+    Direction {
+        at: usize,
+    },
     /// An attribute with its name and its arguments.
     Attribute {
         at: usize,
@@ -101,7 +114,10 @@ pub enum Tree {
         arguments: Trees,
     },
     /// Statements in braces.
-    Block { at: usize, statements: Trees },
+    Block {
+        at: usize,
+        statements: Trees,
+    },
     /// A statement: a block, a local, an expression, an `if`, a loop or a jump, or the semicolon `at` alone.
     Stmt {
         at: usize,
@@ -263,5 +279,8 @@ pub enum Tree {
         arguments: Option<Boxed<Tree>>,
     },
     /// Arguments in parentheses.
-    Args { at: usize, arguments: Trees },
+    Args {
+        at: usize,
+        arguments: Trees,
+    },
 }

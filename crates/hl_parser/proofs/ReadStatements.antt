@@ -102,7 +102,7 @@ local_never t =
 
 -- ---- blocks
 
-statement_never : (t next : Terminal) → NeverYields (on_statement t next)
+pub statement_never : (t next : Terminal) → NeverYields (on_statement t next)
 statement_never t next =
     never_if (begins_local t next) _ _ (never_followed (on_local t) (symbols.Skip terminals.Semicolon ∷ symbols.Make acts.Part ∷ []))
     (never_if (begins_expression t) _ _ (never_followed (on_operand 27 t next) (symbols.Skip terminals.Semicolon ∷ symbols.Make acts.Part ∷ []))

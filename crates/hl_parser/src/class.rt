@@ -2,8 +2,8 @@
 
 ghost use Rattle.std.specs.Prelude.{◌≡◌, ◌≤◌, ◌||◌};
 ghost use Rattle.hl_parser.specs.Codes.{is};
-ghost use Rattle.hl_parser.specs.Grammar.{is_assign, is_basic, is_direction, is_prefix, is_word, operator_of};
-ghost use Rattle.hl_parser.specs.Machine.{begins_expression, begins_init, begins_item, begins_local, begins_param, begins_statement, begins_type, joins_to, level_of};
+ghost use Rattle.hl_parser.specs.Grammar.{is_assign, is_basic, is_direction, is_jump, is_prefix, is_word, operator_of};
+ghost use Rattle.hl_parser.specs.Machine.{begins_expression, begins_init, begins_item, begins_local, begins_param, begins_statement, begins_type, is_control, is_statement_mark, joins_to, level_of};
 ghost use Rattle.hl_lexer.specs.declared.terminal.Terminal.TheVariants.{Void};
 
 use hl_lexer::Terminal;
@@ -252,32 +252,16 @@ pub(crate) fn begins_item(terminal: Terminal) -> bool
 pub(crate) fn begins_statement(terminal: Terminal) -> bool
     ensures { result ≡ begins_statement terminal }
 {
+    begins_expression(terminal) || is_statement_word(terminal)
+}
+
+/// Whether a statement that is no expression begins with a token.
+fn is_statement_word(terminal: Terminal) -> bool
+    ensures { result ≡ (is_control terminal || (is_jump terminal || is_statement_mark terminal)) }
+{
     matches!(
         terminal,
-        Terminal::Number
-            | Terminal::True
-            | Terminal::False
-            | Terminal::Name
-            | Terminal::Bool
-            | Terminal::Int
-            | Terminal::Uint
-            | Terminal::Bool2
-            | Terminal::Bool3
-            | Terminal::Bool4
-            | Terminal::Int2
-            | Terminal::Int3
-            | Terminal::Int4
-            | Terminal::Uint2
-            | Terminal::Uint3
-            | Terminal::Uint4
-            | Terminal::Plus
-            | Terminal::Minus
-            | Terminal::Exclamation
-            | Terminal::Tilde
-            | Terminal::PlusPlus
-            | Terminal::MinusMinus
-            | Terminal::OpenParenthesis
-            | Terminal::If
+        Terminal::If
             | Terminal::For
             | Terminal::While
             | Terminal::Do

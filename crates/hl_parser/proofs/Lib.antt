@@ -21,3 +21,4 @@ pub mod Completion
 pub mod Progress
 pub mod Plain
 pub mod StackFacts
+pub mod FeedFacts

@@ -8,6 +8,9 @@ use Rattle.hl_parser.specs.declared.values.Values.{Values}
 use Rattle.hl_parser.specs.declared.parser.Parser.{Parser}
 use Rattle.hl_parser.specs.declared.parser.Outcome.{Outcome}
 use Rattle.hl_parser.specs.declared.parser.Outcome.TheVariants.{Reads, Yields, Refuses}
+use Rattle.hl_parser.specs.declared.step.Fed.{Fed}
+use Rattle.hl_parser.specs.declared.step.Fed.TheVariants.{Read, Spent, Refused}
+use Rattle.hl_parser.specs.Machine as machine
 use Rattle.hl_parser.specs.Machine.{Kept, Move, Value, gone, kept, perform_all, reads, refuses, yields, v_none, v_token, v_tree, v_trees}
 use Rattle.hl_parser.specs.Trees.{depth, depths}
 use Rattle.hl_parser.specs.Views.{plain_of, plain_trees}
@@ -56,3 +59,10 @@ Did (reads done more) at before after Reads = (after.pending ≡ more ++ before.
 Did (yields done) at before after Yields = (after.pending ≡ before.pending) × Performed done at before.values after.values
 Did refuses at before after Refuses = Unit {0}
 Did move at before after outcome = ⊥
+
+-- what comes of a token, with what is held then
+abbrev pub FedIs : machine.Fed → Parser → Fed → Type 0
+FedIs (machine.fed pending values) after Read = (after.pending ≡ pending) × Holds after.values values
+FedIs (machine.spent values) after Spent = Holds after.values values
+FedIs machine.refused after Refused = Unit {0}
+FedIs outcome after result = ⊥

@@ -9,6 +9,7 @@ pub mod laws;
 mod parser;
 mod pending;
 mod statements;
+mod step;
 mod symbol;
 mod tree;
 mod values;

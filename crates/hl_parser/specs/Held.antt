@@ -1,38 +1,30 @@
 -- The values that the parser holds, beside those of the machine.
-use Rattle.std.specs.Prelude.{◌≡◌, ℕ, ◌<◌, max, List, [], ◌∷◌, ◌++◌, map, reverse, Option, None, Some}
+use Rattle.std.specs.Prelude.{◌≡◌, ℕ, ◌<◌, ◌≤◌, max, List, [], ◌∷◌, ◌++◌, map, reverse, Option, None, Some}
 use Rattle.hl_parser.specs.declared.act.Act.{Act}
-use Rattle.hl_parser.specs.declared.values.Part.{Part}
-use Rattle.hl_parser.specs.declared.values.Part.TheVariants as parts
-use Rattle.hl_parser.specs.declared.values.Value as held
+use Rattle.hl_parser.specs.declared.parts.Value as held
 use Rattle.hl_parser.specs.declared.values.Values.{Values}
 use Rattle.hl_parser.specs.declared.parser.Parser.{Parser}
 use Rattle.hl_parser.specs.declared.parser.Outcome.{Outcome}
 use Rattle.hl_parser.specs.declared.parser.Outcome.TheVariants.{Reads, Yields, Refuses}
 use Rattle.hl_parser.specs.declared.step.Fed.{Fed}
 use Rattle.hl_parser.specs.declared.step.Fed.TheVariants.{Read, Spent, Refused}
+use Rattle.hl_parser.specs.Parts.{depth_of, value_of}
+use Rattle.std.specs.declared.result.Result.{Result}
+use Rattle.std.specs.declared.result.Result.TheVariants.{Ok, Err}
+use Rattle.hl_parser.specs.declared.fault.ParseFault.{ParseFault}
+use Rattle.hl_parser.specs.declared.fault.ParseFault.TheVariants.{Syntax, TooDeep, Memory}
+use Rattle.hl_parser.specs.declared.tree.Tree.{Tree}
+use Rattle.hl_parser.specs.Trees.{depth}
+use Rattle.hl_parser.specs.Trees as plain
+use Rattle.hl_parser.specs.Views.{plain_of}
 use Rattle.hl_parser.specs.Machine as machine
 use Rattle.hl_parser.specs.Machine.{Kept, Move, Value, gone, kept, perform_all, reads, refuses, yields, v_none, v_token, v_tree, v_trees}
-use Rattle.hl_parser.specs.Trees.{depth, depths}
-use Rattle.hl_parser.specs.Views.{plain_of, plain_trees}
-
--- a value as the machine sees it
-abbrev pub value_of : Part → Value
-value_of (parts.Token index) = v_token index
-value_of (parts.Tree tree) = v_tree (plain_of tree)
-value_of (parts.Trees trees) = v_trees (plain_trees trees)
-value_of parts.Nothing = v_none
 
 -- the values as the machine sees them, the last one first
 abbrev pub values_of : List held.Value → List Value
 values_of values = reverse (map (λ v. value_of v.part) values)
 
--- how deep values are
-abbrev pub depth_of : Value → ℕ
-depth_of (v_token index) = 0
-depth_of (v_tree tree) = depth tree
-depth_of (v_trees trees) = depths trees
-depth_of v_none = 0
-
+-- how deep the deepest value is
 abbrev pub deepest : List Value → ℕ
 deepest [] = 0
 deepest (value ∷ values) = max (depth_of value) (deepest values)
@@ -66,3 +58,10 @@ FedIs (machine.fed pending values) after Read = (after.pending ≡ pending) × H
 FedIs (machine.spent values) after Spent = Holds after.values values
 FedIs machine.refused after Refused = Unit {0}
 FedIs outcome after result = ⊥
+
+-- what the values are in the end: the tree, or a fault where the tree is too deep
+abbrev pub Finishes : Result Tree ParseFault → plain.Tree → Type 0
+Finishes (Ok found) tree = (plain_of found ≡ tree) × (depth tree ≤ 64)
+Finishes (Err TooDeep) tree = 64 < depth tree
+Finishes (Err Memory) tree = ⊥
+Finishes (Err (Syntax at)) tree = ⊥

@@ -5,13 +5,18 @@ mod act;
 mod class;
 mod declarations;
 mod expressions;
+mod fault;
 pub mod laws;
 mod parser;
+mod parts;
 mod pending;
+mod read;
 mod statements;
 mod step;
 mod symbol;
 mod tree;
 mod values;
 
+pub use fault::ParseFault;
+pub use read::parse;
 pub use tree::{Tree, Trees};

@@ -1,8 +1,8 @@
 //! The machine that reads tokens.
 
-ghost use Rattle.std.specs.Prelude.{◌≡◌, ◌++◌, IfOk, OnOk};
-ghost use Rattle.hl_parser.specs.Held.{Did, Performed};
-ghost use Rattle.hl_parser.specs.Machine.{reads, yields};
+ghost use Rattle.std.specs.Prelude.{◌≡◌, [], ◌++◌, IfOk, OnOk};
+ghost use Rattle.hl_parser.specs.Held.{Did, Holds, Performed};
+ghost use Rattle.hl_parser.specs.Machine.{kept, reads, start, yields};
 
 use crate::act::Act;
 use crate::pending::Pending;
@@ -10,6 +10,8 @@ use crate::symbol::Symbol;
 use crate::values::Values;
 use base_core::NoMemory;
 use hl_lexer::Terminal;
+use sqlite_items::Items;
+use std::alloc::Global;
 
 /// What a symbol does at a token.
 #[derive(Clone, Copy, Debug, PartialEq, Eq)]
@@ -43,6 +45,28 @@ pub(crate) struct Parser {
 }
 
 impl Parser {
+    /// A parser that has read nothing.
+    ///
+    /// # Errors
+    /// `NoMemory` where memory is refused.
+    pub(crate) fn new(alloc: Global) -> Result<Parser, NoMemory>
+        ensures pending { IfOk result (λ parser. parser.pending ≡ start) }
+        ensures values { IfOk result (λ parser. Holds parser.values (kept [])) }
+    {
+        let mut pending = Pending::new(alloc);
+        pending.push(&[
+            Symbol::Make(Act::Empty),
+            Symbol::Item,
+            Symbol::Make(Act::Append),
+            Symbol::Items,
+            Symbol::Make(Act::Program),
+        ])?;
+        let values = Values {
+            kept: Some(Items::new(alloc)),
+        };
+        Ok(Parser { pending, values })
+    }
+
     /// Reads a token, with symbols still to be read in the place of one.
     pub(crate) fn reads(
         &mut self,

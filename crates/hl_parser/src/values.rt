@@ -1,34 +1,17 @@
 //! What is read so far.
 
 ghost use Rattle.std.specs.Prelude.{◌≡◌, ℕ, [], ◌∷◌, OnOk};
-ghost use Rattle.hl_parser.specs.Held.{Performed};
+ghost use Rattle.hl_parser.specs.Held.{Finishes, Holds, Performed};
+ghost use Rattle.hl_parser.specs.Machine.{kept, v_tree};
+ghost use Rattle.hl_parser.specs.Parts.{value_of};
+ghost use Rattle.hl_parser.specs.Trees as plain;
 
 use crate::act::Act;
-use crate::tree::{Tree, Trees};
+use crate::fault::ParseFault;
+use crate::parts::{Part, Value};
+use crate::tree::Tree;
 use base_core::NoMemory;
-use sqlite_items::{Boxed, Items};
-
-/// What is read: the index of a token, a tree, trees, or nothing in the place of an optional part.
-#[derive(Debug, Drop)]
-pub(crate) enum Part {
-    /// The index of a token.
-    Token(usize),
-    /// A tree.
-    Tree(Boxed<Tree>),
-    /// Trees.
-    Trees(Trees),
-    /// Nothing.
-    Nothing,
-}
-
-/// What is read, and how deep it is.
-#[derive(Debug, Drop)]
-pub(crate) struct Value {
-    /// What it is.
-    pub(crate) part: Part,
-    /// How deep it is.
-    pub(crate) depth: usize,
-}
+use sqlite_items::Items;
 
 /// What is read so far, unless it is too deep.
 #[derive(Debug, Drop)]
@@ -61,5 +44,32 @@ impl Values {
             self.perform(*act, at)?;
         }
         Ok(())
+    }
+
+    /// The tree, where it alone is read.
+    pub(crate) fn finish(self) -> Result<Tree, ParseFault>
+        ensures { (tree : plain.Tree) → Holds self (kept (v_tree tree ∷ [])) → Finishes result tree }
+    {
+        let Some(mut values) = self.kept else {
+            return Err(ParseFault::TooDeep);
+        };
+        match values.pop() {
+            Some(value) => tree_of(value),
+            None => Err(ParseFault::Memory),
+        }
+    }
+}
+
+/// The tree that a value is.
+fn tree_of(value: Value) -> Result<Tree, ParseFault>
+    ensures { (tree : plain.Tree) → value_of value.part ≡ v_tree tree → Finishes result tree }
+{
+    let Value {
+        part,
+        depth: _depth,
+    } = value;
+    match part {
+        Part::Tree(tree) => Ok(tree.into_inner()),
+        _ => Err(ParseFault::Memory),
     }
 }

@@ -22,3 +22,4 @@ pub mod Progress
 pub mod Plain
 pub mod StackFacts
 pub mod FeedFacts
+pub mod ParseFacts

@@ -1,5 +1,5 @@
 -- The values that the parser holds, beside those of the machine.
-use Rattle.std.specs.Prelude.{◌≡◌, ℕ, ◌<◌, ◌≤◌, max, List, [], ◌∷◌, ◌++◌, map, reverse, Option, None, Some}
+use Rattle.std.specs.Prelude.{◌≡◌, ℕ, Bool, true, false, ◌<◌, ◌≤◌, max, List, [], ◌∷◌, ◌++◌, map, reverse, Option, None, Some}
 use Rattle.hl_parser.specs.declared.act.Act.{Act}
 use Rattle.hl_parser.specs.declared.parts.Value as held
 use Rattle.hl_parser.specs.declared.values.Values.{Values}
@@ -65,3 +65,8 @@ Finishes (Ok found) tree = (plain_of found ≡ tree) × (depth tree ≤ 64)
 Finishes (Err TooDeep) tree = 64 < depth tree
 Finishes (Err Memory) tree = ⊥
 Finishes (Err (Syntax at)) tree = ⊥
+
+-- an act made the values, or none are kept any more
+abbrev pub Makes : Kept → Bool → List held.Value → Type 0
+Makes values true mine = values ≡ kept (values_of mine)
+Makes values false mine = IsLost values

@@ -19,4 +19,3 @@ depth_of (v_token index) = 0
 depth_of (v_tree tree) = depth tree
 depth_of (v_trees trees) = depths trees
 depth_of v_none = 0
-

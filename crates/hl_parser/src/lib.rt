@@ -14,6 +14,7 @@ mod read;
 mod statements;
 mod step;
 mod symbol;
+mod take;
 mod tree;
 mod values;
 

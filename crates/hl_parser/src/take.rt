@@ -3,7 +3,6 @@
 ghost use Rattle.std.specs.Prelude.{◌≡◌, ℕ, List, ◌∷◌, Option, IfOk, MatchOption};
 ghost use Rattle.hl_parser.specs.Held.{Makes, values_of};
 ghost use Rattle.hl_parser.specs.Machine as machine;
-ghost use Rattle.hl_parser.specs.declared.act.Act.TheVariants.{Struct};
 ghost use Rattle.hl_parser.specs.Machine.{Kept, gone};
 ghost use Rattle.hl_parser.specs.Parts.{value_of};
 ghost use Rattle.hl_parser.specs.Trees as plain;
@@ -104,30 +103,4 @@ pub(crate) fn put(
     let part = Part::Tree(Boxed::new(alloc, tree)?);
     values.push(Value { part, depth })?;
     Ok(true)
-}
-
-/// Makes a struct.
-pub(crate) fn make_struct(alloc: Global, values: &mut Items<Value>) -> Result<bool, NoMemory>
-    ensures { IfOk result (λ made. Makes (machine.act_on Struct 0 (values_of values.old)) made values.new) }
-{
-    let Some(members) = take_trees(values) else {
-        return Ok(false);
-    };
-    let Some(name) = take_token(values) else {
-        return Ok(false);
-    };
-    let Some(at) = take_token(values) else {
-        return Ok(false);
-    };
-    let depth = members.depth;
-    put(
-        alloc,
-        values,
-        Tree::Struct {
-            at,
-            name,
-            members: members.trees,
-        },
-        depth,
-    )
 }

@@ -1,5 +1,9 @@
 //! Trees.
 
+ghost use Rattle.std.specs.Prelude.{◌≡◌};
+ghost use Rattle.hl_parser.specs.Trees.{at_of};
+ghost use Rattle.hl_parser.specs.Views.{plain_of};
+
 use sqlite_items::{Boxed, Items};
 
 /// Trees in order.
@@ -283,4 +287,56 @@ pub enum Tree {
         at: usize,
         arguments: Trees,
     },
+}
+
+impl Tree {
+    /// The index of the first token.
+    pub fn at(&self) -> usize
+        ensures { result ≡ at_of (plain_of self.now) }
+    {
+        match self {
+            Tree::Program { at, .. } => *at,
+            Tree::Item { at, .. } => *at,
+            Tree::Struct { at, .. } => *at,
+            Tree::Member { at, .. } => *at,
+            Tree::Type { at, .. } => *at,
+            Tree::Basic { at } => *at,
+            Tree::Declarator { at, .. } => *at,
+            Tree::Buffer { at, .. } => *at,
+            Tree::Kind { at, .. } => *at,
+            Tree::Shared { at, .. } => *at,
+            Tree::Constant { at, .. } => *at,
+            Tree::Init { at, .. } => *at,
+            Tree::Function { at, .. } => *at,
+            Tree::Result { at, .. } => *at,
+            Tree::Param { at, .. } => *at,
+            Tree::Direction { at } => *at,
+            Tree::Attribute { at, .. } => *at,
+            Tree::Block { at, .. } => *at,
+            Tree::Stmt { at, .. } => *at,
+            Tree::Local { at, .. } => *at,
+            Tree::Start { at, .. } => *at,
+            Tree::If { at, .. } => *at,
+            Tree::For { at, .. } => *at,
+            Tree::While { at, .. } => *at,
+            Tree::Do { at, .. } => *at,
+            Tree::Jump { at, .. } => *at,
+            Tree::Expr { at, .. } => *at,
+            Tree::Choice { at, .. } => *at,
+            Tree::Or { at, .. } => *at,
+            Tree::And { at, .. } => *at,
+            Tree::Bitor { at, .. } => *at,
+            Tree::Bitxor { at, .. } => *at,
+            Tree::Bitand { at, .. } => *at,
+            Tree::Equal { at, .. } => *at,
+            Tree::Less { at, .. } => *at,
+            Tree::Shift { at, .. } => *at,
+            Tree::Sum { at, .. } => *at,
+            Tree::Product { at, .. } => *at,
+            Tree::Unary { at, .. } => *at,
+            Tree::Postfix { at, .. } => *at,
+            Tree::Primary { at, .. } => *at,
+            Tree::Args { at, .. } => *at,
+        }
+    }
 }

@@ -23,3 +23,4 @@ pub mod Plain
 pub mod StackFacts
 pub mod FeedFacts
 pub mod ParseFacts
+pub mod Deep

@@ -1,5 +1,6 @@
 -- The machine reads expressions, one lemma a form.
-use Rattle.std.proofs.Common.{◌≡◌, ◌∙◌, refl, sym, ap, subst, ℕ, suc, ◌<◌, ◌≤◌, Bool, true, false, cond, if◌then◌else◌, eqb, nat_le, nat_lt, not, ◌&&◌, ◌||◌, Option, None, Some, List, [], ◌∷◌, ◌++◌, arith}
+use Rattle.std.proofs.Common.{◌≡◌, ◌∙◌, refl, sym, ap, ap₂, subst, ℕ, suc, ◌<◌, ◌≤◌, Bool, true, false, cond, if◌then◌else◌, eqb, nat_le, nat_lt, not, ◌&&◌, ◌||◌, Option, None, Some, List, [], ◌∷◌, ◌++◌, arith}
+use Rattle.std.proofs.lemmas.Bool.{le-leb}
 use Rattle.hl_lexer.specs.declared.terminal.Terminal.{Terminal}
 use Rattle.hl_lexer.specs.declared.terminal.Terminal.TheVariants as terminals
 use Rattle.hl_parser.specs.declared.act.Act.TheVariants as acts
@@ -7,7 +8,7 @@ use Rattle.hl_parser.specs.declared.symbol.Symbol.{Symbol}
 use Rattle.hl_parser.specs.declared.symbol.Symbol.TheVariants as symbols
 use Rattle.hl_parser.specs.Codes.{all_terminals, is}
 use Rattle.hl_parser.specs.Grammar.{Mark, Nothing, Numbered, Operator, PerhapsListed, Spells, Token, Word, is_assign, is_basic, is_prefix, is_step, is_word, last_for, n_args, n_basic, n_choice, n_expr, n_or, n_postfix, n_primary, n_product, n_unary, nth, operator_of, peek, ◌then◌}
-use Rattle.hl_parser.specs.Machine.{Kept, Value, append_tree, begins_expression, begins_local, is_repeating, joins_to, kept, level_of, move_of, on_args, on_operand, reads, v_none, v_token, v_tree, v_trees, yields}
+use Rattle.hl_parser.specs.Machine.{Kept, Value, append_tree, begins_expression, begins_local, gone, is_level, is_repeating, joins_to, kept, level_of, make_binary, move_of, on_args, on_operand, reads, v_none, v_token, v_tree, v_trees, yields}
 use Rattle.hl_parser.specs.Trees.{Tree, a_program, an_item, a_struct, a_member, a_type, a_basic, a_declarator, a_buffer, a_kind, a_shared, a_constant, an_init, a_function, a_result, a_param, a_direction, an_attribute, a_block, a_stmt, a_local, a_start, an_if, a_for, a_while, a_do, a_jump, an_expr, a_choice, a_binary, a_unary, a_postfix, a_primary, an_args, Trees, no_trees, more_trees, Maybe, absent, present, at_of}
 use Rattle.hl_parser.proofs.Claims.{Claim, Claimed, CommasClaimed, Loops, Quiet, Takes, TakesExpression, append_trees, closes, edge_of}
 use Rattle.hl_parser.proofs.Moves.{class_quiet, closes_no_name, edge_above, edge_high, edge_low, edge_repeats, if_false, if_true, joins_assign, joins_high, level_assign, level_not_unary, level_repeating, level_step, operand_basic, operand_never, operand_prefix, operand_word, operator_assign, operator_repeating, operator_step, quiet_closes, repeating, tail_takes, tail_yields}
@@ -61,6 +62,10 @@ left_side asked level k tree t from m K vs w l u c e f low below no_call rest =
     as_expression tree asked from m l u c.spelled c.claim k K vs w (omega arith)
     (record { below = omega arith; no_call = ap (λ x. is x terminals.OpenParenthesis) e ∙ no_call }) rest
 
+level_true : (production : ℕ) → n_or ≤ production → production ≤ n_product → is_level production ≡ true
+level_true production low high =
+    ap₂ (λ x y. x && y) (le-leb n_or production low) (le-leb production n_product high)
+
 pub binary_reads : (production at : ℕ) (left : Tree) (mark : ℕ) (right : Tree) (from m n to : List Numbered) → n_or ≤ production → production ≤ n_product → at ≡ at_of left → Claimed production left from m → Operator mark production m n → Claimed (suc production) right n to → TakesExpression (a_binary production at left mark right) from to
 binary_reads production at left mark right from m n to low high e cl (t, eo, em) cr = λ k K vs w k_low quiet rest.
     let b = between left production from m (omega arith) (omega arith) cl.spelled in
@@ -75,7 +80,8 @@ binary_reads production at left mark right from m n to low high e cl (t, eo, em)
     (tail_takes (number_of left) k production t (peek n) level k_low (omega arith) ∙ operator_repeating k t rep
     ∙ ap (λ p. reads (acts.Here ∷ []) (symbols.Operand (suc p) ∷ symbols.Make (acts.Binary p) ∷ symbols.Tail p k ∷ [])) eo)
     (whole (suc production) right n to (omega arith) (omega arith) cr quiet_below quiet.no_call _ _ _
-    (does (subst (λ a. Runs (symbols.Tail production k ∷ K) (kept (v_tree (a_binary production a left mark right) ∷ vs)) to w) e rest))))
+    (does (subst (λ V. Runs (symbols.Tail production k ∷ K) V to w) (sym (if_true (is_level production) (make_binary production (v_tree right ∷ v_token mark ∷ v_tree left ∷ vs)) gone (level_true production low high)))
+    (subst (λ a. Runs (symbols.Tail production k ∷ K) (kept (v_tree (a_binary production a left mark right) ∷ vs)) to w) e rest)))))
 
 pub assignment_reads : (at : ℕ) (left : Tree) (mark : ℕ) (right : Tree) (from m n to : List Numbered) → at ≡ at_of left → Claimed n_choice left from m → Word mark is_assign m n → Claimed n_expr right n to → TakesExpression (an_expr at left mark right) from to
 assignment_reads at left mark right from m n to e cl (t, c, em) cr = λ k K vs w k_low quiet rest.

@@ -92,6 +92,14 @@ put tree values = kept (v_tree tree ∷ values)
 
 -- ---- acts
 
+-- whether a number is that of a production of operators that repeat
+abbrev pub is_level : ℕ → Bool
+is_level level = nat_le 30 level && nat_le level 39
+
+abbrev pub make_binary : ℕ → List Value → Kept
+make_binary level vs =
+    take_tree vs (λ right vs. take_token vs (λ mark vs. take_tree vs (λ left vs. put (a_binary level (at_of left) left mark right) vs)))
+
 -- what an act makes of the values, where the token at an index is looked at
 abbrev pub act_on : Act → ℕ → List Value → Kept
 act_on acts.Here at vs = kept (v_token at ∷ vs)
@@ -130,7 +138,7 @@ act_on acts.Do at vs = take_tree vs (λ condition vs. take_tree vs (λ body vs. 
 act_on acts.Jump at vs = take_maybe vs (λ value vs. take_token vs (λ word vs. put (a_jump word value) vs))
 act_on acts.Assignment at vs = take_tree vs (λ right vs. take_token vs (λ mark vs. take_tree vs (λ left vs. put (an_expr (at_of left) left mark right) vs)))
 act_on acts.Choice at vs = take_tree vs (λ alternative vs. take_tree vs (λ consequent vs. take_tree vs (λ condition vs. put (a_choice (at_of condition) condition consequent alternative) vs)))
-act_on (acts.Binary level) at vs = take_tree vs (λ right vs. take_token vs (λ mark vs. take_tree vs (λ left vs. put (a_binary level (at_of left) left mark right) vs)))
+act_on (acts.Binary level) at vs = if is_level level then make_binary level vs else gone
 act_on acts.Unary at vs = take_tree vs (λ operand vs. take_token vs (λ mark vs. put (a_unary mark absent operand) vs))
 act_on acts.Cast at vs = take_tree vs (λ operand vs. take_tree vs (λ basic vs. take_token vs (λ mark vs. put (a_unary mark (present basic) operand) vs)))
 act_on acts.Field at vs = take_maybe vs (λ arguments vs. take_token vs (λ name vs. take_token vs (λ mark vs. take_tree vs (λ operand vs. put (a_postfix (at_of operand) operand mark (Some name) arguments) vs))))

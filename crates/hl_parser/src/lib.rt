@@ -8,6 +8,7 @@ mod expressions;
 mod fault;
 mod first;
 pub mod laws;
+mod make;
 mod make_declarations;
 mod make_expressions;
 mod make_statements;

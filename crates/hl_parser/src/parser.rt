@@ -62,6 +62,7 @@ impl Parser {
             Symbol::Make(Act::Program),
         ])?;
         let values = Values {
+            alloc,
             kept: Some(Items::new(alloc)),
         };
         Ok(Parser { pending, values })

@@ -1,10 +1,10 @@
 //! Values are taken from those that are read, and trees put on them.
 
-ghost use Rattle.std.specs.Prelude.{◌≡◌, ℕ, List, ◌∷◌, Option, IfOk, MatchOption};
+ghost use Rattle.std.specs.Prelude.{◌≡◌, ◌≤◌, ℕ, List, ◌∷◌, Option, IfOk, MatchOption};
 ghost use Rattle.hl_parser.specs.Held.{Makes, values_of};
 ghost use Rattle.hl_parser.specs.Machine as machine;
-ghost use Rattle.hl_parser.specs.Machine.{Kept, gone};
-ghost use Rattle.hl_parser.specs.Parts.{value_of};
+ghost use Rattle.hl_parser.specs.Machine.{Kept, gone, kept};
+ghost use Rattle.hl_parser.specs.Parts.{depth_of, value_of};
 ghost use Rattle.hl_parser.specs.Trees as plain;
 ghost use Rattle.hl_parser.specs.Views.{plain_maybe, plain_of, plain_trees};
 
@@ -101,6 +101,23 @@ pub(crate) fn put(
         return Ok(false);
     }
     let part = Part::Tree(Boxed::new(alloc, tree)?);
+    values.push(Value { part, depth })?;
+    Ok(true)
+}
+
+/// Puts a value on the others.
+///
+/// # Errors
+/// `NoMemory` where memory is refused.
+pub(crate) fn put_part(
+    values: &mut Items<Value>,
+    part: Part,
+    depth: usize,
+) -> Result<bool, NoMemory>
+    requires measured { depth ≡ depth_of (value_of part) }
+    requires shallow { depth ≤ 64 }
+    ensures { IfOk result (λ made. Makes (kept (value_of part ∷ values_of values.old)) made values.new) }
+{
     values.push(Value { part, depth })?;
     Ok(true)
 }

@@ -8,14 +8,18 @@ ghost use Rattle.hl_parser.specs.Trees as plain;
 
 use crate::act::Act;
 use crate::fault::ParseFault;
+use crate::make::make;
 use crate::parts::{Part, Value};
 use crate::tree::Tree;
 use base_core::NoMemory;
 use sqlite_items::Items;
+use std::alloc::Global;
 
 /// What is read so far, unless it is too deep.
 #[derive(Debug, Drop)]
 pub(crate) struct Values {
+    /// Where memory comes from.
+    pub(crate) alloc: Global,
     /// The values, the last one at the end. None are kept once one was too deep.
     pub(crate) kept: Option<Items<Value>>,
 }
@@ -28,9 +32,13 @@ impl Values {
     pub(crate) fn perform(&mut self, act: Act, at: usize) -> Result<(), NoMemory>
         ensures { OnOk result (Performed (act ∷ []) at self.old self.new) }
     {
-        let _act = act;
-        let _at = at;
-        Err(NoMemory)
+        let Some(values) = &mut self.kept else {
+            return Ok(());
+        };
+        if !make(self.alloc, values, act, at)? {
+            self.kept = None;
+        }
+        Ok(())
     }
 
     /// Does acts, where the token with an index is looked at.

@@ -129,4 +129,3 @@ returns-in-Primary c = sym (ap at_of (ap plain_of c.in-Primary.is ∙ plain-Prim
 
 pub returns-in-Args : goal.returns-in-Args
 returns-in-Args c = sym (ap at_of (ap plain_of c.in-Args.is ∙ plain-Args c.in-Args.at c.in-Args.arguments))
-

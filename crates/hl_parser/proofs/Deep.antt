@@ -3,7 +3,7 @@ use Rattle.std.proofs.Common.{◌≡◌, ℕ, suc, ◌<◌, ◌≤◌, max, Bool
 use Rattle.hl_parser.specs.declared.act.Act.{Act}
 use Rattle.hl_parser.specs.declared.act.Act.TheVariants as acts
 use Rattle.hl_parser.specs.Held.{IsLost, deepest}
-use Rattle.hl_parser.specs.Machine.{Kept, Value, act_on, append_tree, gone, is_level, kept, make_binary, put, take_maybe, take_option, take_token, take_tree, take_trees, v_none, v_token, v_tree, v_trees}
+use Rattle.hl_parser.specs.Machine.{Kept, Value, act_on, append_tree, gone, is_level, kept, make_binary, perform, put, take_maybe, take_option, take_token, take_tree, take_trees, v_none, v_token, v_tree, v_trees}
 use Rattle.hl_parser.specs.Trees.{Maybe, Tree, Trees, absent, depth, depth_if, depths, more_trees, no_trees, present}
 use Rattle.std.proofs.Math.Nat.{max-le, le-max_left, le-max_right}
 
@@ -57,16 +57,16 @@ pub depths-append : (ts : Trees) (t : Tree) → depths (append_tree ts t) ≡ ma
 depths-append no_trees t = omega arith
 depths-append (more_trees first rest) t = let h = depths-append rest t in omega arith
 
+binary_deep : {n : ℕ} (level : ℕ) (vs : List Value) → n ≤ deepest vs → (b : Bool) → IsDeep n (if b then make_binary level vs else gone)
+binary_deep level vs h true = tree_deep 0 vs _ (omega arith) (λ t r h. token_deep _ r _ h (λ i r h. tree_deep _ r _ h (λ t r h. record { deep = omega arith })))
+binary_deep level vs h false = nothing_deep
+
 act_deep : {n : ℕ} (act : Act) (at : ℕ) (vs : List Value) → n ≤ deepest vs → IsDeep n (act_on act at vs)
 act_deep acts.Here at vs h = record { deep = omega arith }
 act_deep acts.Absent at vs h = record { deep = omega arith }
 act_deep acts.Empty at vs h = record { deep = omega arith }
 act_deep acts.Append at vs h = tree_deep 0 vs _ (omega arith) (λ t r h. trees_deep _ r _ h (λ ts r h. let e = depths-append ts t in record { deep = omega arith }))
-act_deep (acts.Binary level) at vs h = by_level (is_level level)
-  where
-    by_level : (b : Bool) → IsDeep _ (if b then make_binary level vs else gone)
-    by_level true = tree_deep 0 vs _ (omega arith) (λ t r h. token_deep _ r _ h (λ i r h. tree_deep _ r _ h (λ t r h. record { deep = omega arith })))
-    by_level false = nothing_deep
+act_deep (acts.Binary level) at vs h = binary_deep level vs h (is_level level)
 act_deep acts.Program at vs h = trees_deep 0 vs _ (omega arith) (λ x r h. record { deep = omega arith })
 act_deep acts.Item at vs h = tree_deep 0 vs _ (omega arith) (λ x r h. record { deep = omega arith })
 act_deep acts.Struct at vs h = trees_deep 0 vs _ (omega arith) (λ x r h. token_deep _ r _ h (λ x r h. token_deep _ r _ h (λ x r h. record { deep = omega arith })))
@@ -116,3 +116,8 @@ lost act at vs h = as_lost (act_on act at vs) (act_deep {n = 65} act at vs h)
     as_lost : (k : Kept) → IsDeep 65 k → IsLost k
     as_lost gone d = tt
     as_lost (kept values) d = d.deep
+
+-- none are kept after an act where none were
+pub stays_lost : (act : Act) (at : ℕ) (values : Kept) → IsLost values → IsLost (perform act at values)
+stays_lost act at gone h = tt
+stays_lost act at (kept vs) h = lost act at vs h

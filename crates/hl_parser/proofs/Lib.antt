@@ -24,3 +24,4 @@ pub mod StackFacts
 pub mod FeedFacts
 pub mod ParseFacts
 pub mod Deep
+mod TreesAppend

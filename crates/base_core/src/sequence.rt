@@ -103,6 +103,17 @@ impl<T> Sequence<T> {
 }
 
 impl<T: Drop> Sequence<T> {
+    /// Makes room for so many more parts.
+    ///
+    /// # Errors
+    /// `NoMemory` where memory is refused.
+    pub fn reserve(&mut self, more: usize) -> Result<(), NoMemory>
+        ensures { self.new ≡ self.old }
+    {
+        self.parts.reserve(more)?;
+        Ok(())
+    }
+
     /// Adds a part at the end.
     ///
     /// # Errors
@@ -129,6 +140,13 @@ impl<T: Drop> Sequence<T> {
             return Err(NoMemory);
         }
         Ok(Sequence { parts })
+    }
+
+    /// The parts as a vector, in order.
+    pub fn into_vec(self) -> Vec<T>
+        ensures { result.items ≡ self }
+    {
+        self.parts
     }
 }
 

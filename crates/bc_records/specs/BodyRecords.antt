@@ -41,7 +41,7 @@ next_value m next inst = if has_value m inst then suc next else next
 -- the value that an operand of an instruction names, where the next value has the number `next`: the
 -- operand is the difference of the two numbers, modulo 2^32
 abbrev pub absolute : (next operand : ℕ) → ℕ
-absolute next operand = (next + 2 ^ 32 - operand) % 2 ^ 32
+absolute next operand = (next + 2 ^ 32 - operand % 2 ^ 32) % 2 ^ 32
 
 -- a type number is that of a function's type
 abbrev pub IsTypeOf : Module → (function ty : ℕ) → Type 0

@@ -1,6 +1,7 @@
 -- Records and blocks as they stand in a block, before they are read.
-use Rattle.std.specs.Prelude.{ℕ, suc, ◌+◌, ◌==◌, ◌<◌, ◌^◌, if◌then◌else◌, List, [], ◌∷◌, All}
+use Rattle.std.specs.Prelude.{ℕ, ◌==◌, ◌<◌, ◌^◌, if◌then◌else◌, List, [], ◌∷◌, All}
 use Rattle.bc_stream.specs.Blocks.{Contents, no_more, a_record, a_block}
+pub use Rattle.bc_stream.specs.Blocks.{block_count}
 
 -- a record: its code and its operands
 pub data Entry : Type 0 where
@@ -31,9 +32,3 @@ IsWord n = n < 2 ^ 32
 -- characters, which are bytes
 abbrev pub IsText : List ℕ → Type 0
 IsText chars = All (λ c. c < 256) chars
-
--- how many blocks there are, nested ones counted
-abbrev pub block_count : Contents → ℕ
-block_count no_more = 0
-block_count (a_record code values rest) = block_count rest
-block_count (a_block id inner rest) = suc (block_count inner + block_count rest)

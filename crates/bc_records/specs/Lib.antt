@@ -10,3 +10,17 @@ pub mod Ranges
 pub mod FirstList
 pub mod Records
 pub mod Written
+pub mod FaultSites
+pub mod RecordKinds
+pub mod RecordFaults
+pub mod Read
+pub mod ReadBodies
+pub mod RecordAnswers
+pub mod FaultSearch
+pub mod HeldEntries
+pub mod KnownTables
+pub mod FlatTables
+pub mod FaultCounts
+pub mod BodyNumbers
+pub mod BodyPlaces
+pub mod ModuleProgress

@@ -20,7 +20,7 @@ use std::alloc::Global;
 const EXPLICIT_TYPE: u64 = 32768;
 
 /// How many operands a call has before its arguments.
-const CALL_FRONT: usize = 4;
+pub const CALL_FRONT: usize = 4;
 
 /// Differences of value numbers are taken modulo this.
 const MODULUS: u64 = 4294967296;

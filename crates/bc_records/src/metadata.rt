@@ -31,11 +31,12 @@ fn part_numbers(alloc: Global, ids: &MetaIds) -> Result<Values, NoMemory>
     ensures value { IfOk result (λ values. values ≡ map written_part ids.now) }
     ensures range { OnOk result (All PartInRange ids.now) }
 {
-    let mut values = Values::new(alloc);
+    let mut values = Vec::new(alloc);
     let all = ids.as_slice();
     for part in all {
         values.push(part_number(part))?;
     }
+    let values = Values::from_vec(values)?;
     Ok(values)
 }
 

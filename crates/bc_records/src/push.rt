@@ -23,22 +23,22 @@ pub fn are_words(numbers: &[u32])
 fn with_text(alloc: Global, first: &[u64], text: &[u8]) -> Result<Values, NoMemory>
     ensures { IfOk result (λ values. values ≡ first.now ++ text.now) }
 {
-    let mut values = Values::from_slice(alloc, first)?;
+    let mut values = Vec::from_slice(alloc, first)?;
     for character in text {
         values.push(u64::from(*character))?;
     }
-    Ok(values)
+    Values::from_vec(values)
 }
 
 /// Some numbers, and then others.
 fn with_words(alloc: Global, first: &[u64], more: &[u32]) -> Result<Values, NoMemory>
     ensures { IfOk result (λ values. values ≡ first.now ++ more.now) }
 {
-    let mut values = Values::from_slice(alloc, first)?;
+    let mut values = Vec::from_slice(alloc, first)?;
     for word in more {
         values.push(u64::from(*word))?;
     }
-    Ok(values)
+    Values::from_vec(values)
 }
 
 /// Adds a record with these operands.

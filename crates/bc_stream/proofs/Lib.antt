@@ -1,5 +1,12 @@
 pub mod BitLemmas
 pub mod BlockLemmas
+pub mod BodyLemmas
+pub mod ChunkLemmas
+pub mod CountLemmas
+pub mod FewLemmas
+pub mod PieceLemmas
+pub mod ReaderLemmas
+pub mod RecordLemmas
 pub mod SpellingLaw
 pub mod StepLemmas
 pub mod WriterLemmas

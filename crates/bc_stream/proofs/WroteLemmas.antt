@@ -103,7 +103,7 @@ wrote_chunks unit number bits old new h is = record {
 }
 
 -- a chunk with the bit behind it
-flagged : (unit chunk flag : ℕ) → chunk < 2 ^ unit → flag < 2 → low_bits (unit + 1) (chunk + flag * 2 ^ unit) ≡ low_bits unit chunk ++ flag ∷ []
+pub flagged : (unit chunk flag : ℕ) → chunk < 2 ^ unit → flag < 2 → low_bits (unit + 1) (chunk + flag * 2 ^ unit) ≡ low_bits unit chunk ++ flag ∷ []
 flagged unit chunk flag h g =
     low_bits-join unit 1 chunk flag h
     ∙ ap (λ l. low_bits unit chunk ++ l) (low_bits-more 0 flag ∙ (ap (λ d. d ∷ low_bits 0 (flag / 2)) low ∙ ap (λ l. flag ∷ l) (low_bits-none (flag / 2))))
@@ -250,7 +250,7 @@ wrote_as R S old new into p = record {
   spells = λ base rest on. into (place (base + length old) (p.bits ++ rest)) (place (base + length new) rest) (p.spells base rest on);
 }
 
-vbrs_push : (w v : ℕ) (xs : List ℕ) (f t : Place) → (Vbrs w xs then Vbr w v) f t → Vbrs w (xs ++ v ∷ []) f t
+pub vbrs_push : (w v : ℕ) (xs : List ℕ) (f t : Place) → (Vbrs w xs then Vbr w v) f t → Vbrs w (xs ++ v ∷ []) f t
 vbrs_push w v [] f t p = record { middle = t; one = subst (λ m. Vbr w v m t) p.one p.two; two = refl }
 vbrs_push w v (x ∷ xs) f t p = record {
   middle = p.one.middle;

@@ -1,5 +1,5 @@
 -- Blocks and records as plain data, apart from how they are held and how they are spelled.
-use Rattle.std.specs.Prelude.{◌≢◌, ℕ, suc, max, List, [], ◌∷◌, map}
+use Rattle.std.specs.Prelude.{◌≢◌, ℕ, suc, ◌+◌, max, List, [], ◌∷◌, map}
 use Rattle.bc_stream.specs.declared.block.Part.{Part, Part-F, fold-Part}
 use Rattle.bc_stream.specs.declared.block.BlockTree.{BlockTree, BlockTree-F, fold-BlockTree}
 
@@ -20,6 +20,12 @@ abbrev pub levels : Contents → ℕ
 levels no_more = 0
 levels (a_record code values rest) = levels rest
 levels (a_block id inner rest) = max (suc (levels inner)) (levels rest)
+
+-- how many blocks there are, nested ones counted
+abbrev pub block_count : Contents → ℕ
+block_count no_more = 0
+block_count (a_record code values rest) = block_count rest
+block_count (a_block id inner rest) = suc (block_count inner + block_count rest)
 
 -- No block has the id 0, which is that of the block of abbreviations.
 abbrev pub HasNoBlockZero : Contents → Type 0

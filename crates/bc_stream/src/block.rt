@@ -1,10 +1,7 @@
 //! Blocks and records, apart from how they are spelled.
 
-use base_core::Sequence;
+use crate::values::Values;
 use sqlite_items::Items;
-
-/// The values of a record.
-pub type Values = Sequence<u64>;
 
 /// A record: its code and its values.
 #[derive(Debug, Drop)]

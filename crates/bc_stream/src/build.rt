@@ -3,13 +3,14 @@
 ghost use Rattle.std.specs.Prelude.{◌≡◌, OnErr, OnOk};
 ghost use Rattle.bc_stream.specs.Blocks.{a_block, a_record, append, contents_of, no_more, parts_contents};
 
-use crate::block::{BlockList, BlockTree, Entry, Part, Parts, Values};
+use crate::block::{BlockList, BlockTree, Entry, Part, Parts};
+use crate::values::Values;
 use base_core::NoMemory;
 use sqlite_items::Items;
 use std::alloc::Global;
 
 /// The greatest number of parts of a block, and of outermost blocks.
-const MOST_PARTS: usize = 2147483647;
+pub(crate) const MOST_PARTS: usize = 2147483647;
 
 /// The parts of an empty block, which take no memory.
 pub fn no_parts(alloc: Global) -> Parts

@@ -135,36 +135,3 @@ pub fn write_blocks(alloc: Global, blocks: &BlockList) -> Result<Bytes, NoMemory
     bytes.extend_from_slice(body.as_slice())?;
     Ok(bytes)
 }
-
-#[cfg(test)]
-mod tests {
-    use crate::block::BlockList;
-    use crate::build::{no_blocks, no_parts, push_entry, push_outermost};
-    use crate::write::write_blocks;
-    use base_core::{NoMemory, Sequence};
-    use std::alloc::Global;
-
-    /// A block 8 with the record VERSION, as `llvm-bcanalyzer` reads it.
-    const VERSION_ALONE: [u8; 16] = [
-        0x42, 0x43, 0xC0, 0xDE, 0x21, 0x0C, 0, 0, 1, 0, 0, 0, 0x0B, 0x82, 0, 0,
-    ];
-
-    fn version_alone(alloc: Global) -> Result<BlockList, NoMemory>
-        ensures { IfOk result (λ blocks. contents_of blocks ≡ a_block 8 (a_record 1 (1 ∷ []) no_more) no_more) }
-    {
-        let mut parts = no_parts(alloc);
-        let values = Sequence::from_slice(alloc, &[1])?;
-        push_entry(&mut parts, 1, values)?;
-        let mut blocks = no_blocks(alloc);
-        push_outermost(&mut blocks, 8, parts)?;
-        Ok(blocks)
-    }
-
-    #[test]
-    fn writes_a_record(rt: HostRuntime) -> Result<(), NoMemory> {
-        let blocks = version_alone(rt.alloc())?;
-        let bytes = write_blocks(rt.alloc(), &blocks)?;
-        assert_eq!(rt; bytes.as_slice(), VERSION_ALONE.as_slice());
-        Ok(())
-    }
-}

@@ -19,7 +19,7 @@ IfOk-weaker P Q (Ok v) leads h = leads v h
 IfOk-weaker P Q (Err e) leads h = tt
 
 -- bytes spell at most one module
-only_module : AtMostOneContent → OneList → OneModule → (bytes : List ℕ) (one other : Module) → Spells bytes one → Spells bytes other → other ≡ one
+pub only_module : AtMostOneContent → OneList → OneModule → (bytes : List ℕ) (one other : Module) → Spells bytes one → Spells bytes other → other ≡ one
 only_module contents lists modules bytes one other a b =
     let same_bitcode : b.bitcode ≡ a.bitcode = (contents bytes b.bitcode a.bitcode b.major b.minor a.major a.minor b.contained a.contained).0 in
     let spelled : Spelled a.bitcode b.blocks = subst (λ (bits : List ℕ). Spelled bits b.blocks) same_bitcode b.spelled in

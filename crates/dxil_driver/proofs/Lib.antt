@@ -4,6 +4,8 @@ pub mod EmittedFacts
 pub mod EmittedListed
 pub mod EmittedMetadata
 pub mod EmittedWhole
+pub mod Failing
+pub mod OneAnswer
 pub mod OneWord
 pub mod Parts
 pub mod Pushes

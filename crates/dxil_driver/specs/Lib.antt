@@ -1,3 +1,5 @@
+pub mod Check
+pub mod Commands
 pub mod Compiled
 pub mod Emitted
 pub mod FirstForm

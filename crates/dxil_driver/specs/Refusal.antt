@@ -1,13 +1,18 @@
 -- What a refusal answers and prints.
-use Rattle.std.specs.Prelude.{ℕ, List, [], ◌∷◌, ◌++◌, codes}
+use Rattle.std.specs.Prelude.{ℕ, List, [], ◌∷◌, ◌++◌, codes, decimal}
 use Rattle.base_core.specs.declared.whole.ReadStop.{ReadStop}
 use Rattle.base_core.specs.declared.whole.ReadStop.TheVariants.{Fault, TooLong as TookTooMuch, Memory as NoRoomToRead}
+use Rattle.ir_core.specs.Spots.{spot_text}
+use Rattle.bc_stream.specs.declared.fault.StreamFault.TheVariants.{Bad as BadStream, Memory as NoRoomForBlocks}
+use Rattle.bc_records.specs.declared.fault.RecordFault.TheVariants.{Bad as BadRecord, Memory as NoRoomForRecords}
+use Rattle.dxil_driver.specs.declared.checker.CheckFault.{CheckFault}
+use Rattle.dxil_driver.specs.declared.checker.CheckFault.TheVariants.{Container as BadContainer, Stream as BadBitcode, Records as BadBlocks, Rules as BadModule, Memory as NoRoomToCheck}
 use Rattle.dxil_driver.specs.declared.compiler.CompileFault.{CompileFault}
 use Rattle.dxil_driver.specs.declared.compiler.CompileFault.TheVariants.{TooLong as TextTooLong, Unbuilt, Memory as NoRoomToCompile}
 use Rattle.dxil_driver.specs.declared.status.Status.{Status}
 use Rattle.dxil_driver.specs.declared.status.Status.TheVariants.{Done, Refused, Usage as UsageStatus, ReadFault as ReadFaultStatus, WriteFault, Memory as MemoryStatus}
 use Rattle.dxil_driver.specs.declared.refusal.Refusal.{Refusal}
-use Rattle.dxil_driver.specs.declared.refusal.Refusal.TheVariants.{Usage, ReadFault, TooLong, NotBuilt, Memory}
+use Rattle.dxil_driver.specs.declared.refusal.Refusal.TheVariants.{Usage, ReadFault, TooLong, NotBuilt, Container, Stream, Records, Broken, Memory}
 
 -- the exit code of the process
 abbrev pub code_of : Status → ℕ
@@ -21,33 +26,49 @@ code_of MemoryStatus = 5
 abbrev pub status_of : Refusal → Status
 status_of Usage = UsageStatus
 status_of ReadFault = ReadFaultStatus
-status_of TooLong = Refused
-status_of NotBuilt = Refused
 status_of Memory = MemoryStatus
+status_of _ = Refused
+
+abbrev pub line_feed : List ℕ
+line_feed = 10 ∷ []
 
 -- a text as a line: a line feed ends it
 abbrev pub line : List ℕ → List ℕ
-line text = text ++ 10 ∷ []
+line text = text ++ line_feed
 
 abbrev pub line_of : Refusal → List ℕ
-line_of Usage = line (codes "usage: dxil_cli compile")
+line_of Usage = line (codes "usage: dxil_cli compile | check")
 line_of ReadFault = line (codes "error: read fault")
 line_of TooLong = line (codes "error: too long")
 line_of NotBuilt = line (codes "error: not built")
+line_of (Container fault) = codes "error: container " ++ (decimal fault.kind ++ (codes " at " ++ (decimal fault.offset ++ line_feed)))
+line_of (Stream kind bit) = codes "error: stream " ++ (decimal kind ++ (codes " at bit " ++ (decimal bit ++ line_feed)))
+line_of (Records kind block at) = codes "error: records " ++ (decimal kind ++ (codes " at block " ++ (decimal block ++ (codes " record " ++ (decimal at ++ line_feed)))))
+line_of (Broken rule spot) = codes "error: broken V" ++ (decimal rule ++ (codes " at " ++ (spot_text spot ++ line_feed)))
 line_of Memory = line (codes "error: out of memory")
 
 -- what is printed where the output fails
 abbrev pub write_fault_line : List ℕ
 write_fault_line = line (codes "error: write fault")
 
--- the refusal of a source that wasn't read whole
+-- the refusal of an input that wasn't read whole
 abbrev pub refusal_of_stop : ReadStop → Refusal
 refusal_of_stop Fault = ReadFault
 refusal_of_stop TookTooMuch = TooLong
 refusal_of_stop NoRoomToRead = Memory
 
 -- the refusal of a text that wasn't compiled
-abbrev pub refusal_of_fault : CompileFault → Refusal
-refusal_of_fault TextTooLong = TooLong
-refusal_of_fault Unbuilt = NotBuilt
-refusal_of_fault NoRoomToCompile = Memory
+abbrev pub refusal_of_compile : CompileFault → Refusal
+refusal_of_compile TextTooLong = TooLong
+refusal_of_compile Unbuilt = NotBuilt
+refusal_of_compile NoRoomToCompile = Memory
+
+-- the refusal of a container that didn't pass
+abbrev pub refusal_of_check : CheckFault → Refusal
+refusal_of_check (BadContainer fault) = Container fault
+refusal_of_check (BadBitcode (BadStream kind bit)) = Stream kind bit
+refusal_of_check (BadBitcode NoRoomForBlocks) = Memory
+refusal_of_check (BadBlocks (BadRecord kind block at)) = Records kind block at
+refusal_of_check (BadBlocks NoRoomForRecords) = Memory
+refusal_of_check (BadModule rule spot) = Broken rule spot
+refusal_of_check NoRoomToCheck = Memory

@@ -1,20 +1,38 @@
 //! The tool: the words say what is done with the input, the output has the result, and the notes have one
 //! line where there is none.
 
-ghost use Rattle.std.specs.Prelude.{◌≡◌, ◌≢◌, ◌≤◌, ◌⊎◌, ◌↔◌, List, ℕ, length, map, string_bytes, IsTrue, IfOk, IfErr, IfSome, OnOk, IsErr, IsErrOf};
+ghost use Rattle.std.specs.Prelude.{◌≡◌, ◌≢◌, ◌≤◌, ◌⊎◌, List, ℕ, length, map, string_bytes, IfOk, IfErr, IfSome, OnOk, IsErr, IsErrOf};
 ghost use Rattle.std.specs.Io.KnownBytes.{Appends, Keeps};
 ghost use Rattle.base_core.specs.Counts.{HasRisen};
 ghost use Rattle.base_core.specs.Ends.{AppendsPart};
-ghost use Rattle.dxil_driver.specs.Compiled.{most_source, HasFirstForm, Compiled};
+ghost use Rattle.dxil_driver.specs.Commands.{Accepts, Gives, IsRefusedText, IsUsage, Refuses, limit_of, most_container, ok_line, words_of};
+ghost use Rattle.dxil_driver.specs.Compiled.{most_source};
 ghost use Rattle.dxil_driver.specs.Refusal.{status_of, line_of, write_fault_line};
-ghost use Rattle.dxil_driver.specs.Tool.{IsCompile, IsRefused, TakesAll, CompilesTo, Stands, Tells, Cuts, WritesOrCuts, IsStop, IsTooLong, IsNotBuilt, IsDone, FailsOutput, FailsNotes, IsTold, IsDoneOrMemory};
+ghost use Rattle.dxil_driver.specs.Tool.{Cuts, FailsNotes, FailsOutput, GivesAll, IsBadInput, IsDone, IsDoneOrMemory, IsStop, IsTold, IsTooLong, Stands, StandsFor, Tells, TellsOf, WritesOrCuts};
+ghost use Rattle.dxil_driver.specs.declared.command.Command.{Command};
 ghost use Rattle.dxil_driver.specs.declared.refusal.Refusal.{Refusal};
 
-use crate::compiler::{MOST_SOURCE, compile};
+use crate::checker::check;
+use crate::command::Command;
+use crate::compiler::compile;
 use crate::refusal::Refusal;
 use crate::status::Status;
 use base_core::{Bytes, Sink, Source, read_whole, write_whole};
 use std::alloc::Global;
+
+/// What is printed for a container that passes.
+fn ok() -> &'static [u8]
+    ensures { result.now ≡ ok_line }
+{
+    b"ok\n"
+}
+
+/// What is printed where memory is refused.
+fn out_of_memory() -> &'static [u8]
+    ensures { result.now ≡ line_of Refusal.Memory }
+{
+    b"error: out of memory\n"
+}
 
 /// What is printed where the output fails.
 fn write_fault() -> &'static [u8]
@@ -23,32 +41,55 @@ fn write_fault() -> &'static [u8]
     b"error: write fault\n"
 }
 
-/// Whether the words ask to compile.
-fn is_compile(words: &[String]) -> bool
-    ensures { IsTrue result ↔ IsCompile (map string_bytes words.now) }
+/// The container of a source.
+fn compile_input(alloc: Global, text: &[u8]) -> Result<Bytes, Refusal>
+    requires { length text.now ≤ most_source }
+    ensures gives { IfOk result (λ bytes. Gives Command.Compile text.now bytes) }
+    ensures cause { IfErr result (λ refusal. (refusal ≡ Refusal.Memory) ⊎ Refuses Command.Compile text.now refusal) }
+    ensures accepted { OnOk result (¬ IsRefusedText Command.Compile text.now) }
+    ensures complete { Accepts Command.Compile text.now → IfErr result (λ refusal. refusal ≡ Refusal.Memory) }
 {
-    match words {
-        [word] => word.as_str() == "compile",
-        _ => false,
+    let bytes = compile(alloc, text)?;
+    Ok(bytes)
+}
+
+/// What is printed for a container.
+fn check_input(alloc: Global, bytes: &[u8]) -> Result<Bytes, Refusal>
+    requires { length bytes.now ≤ most_container }
+    ensures gives { IfOk result (λ text. Gives Command.Check bytes.now text) }
+    ensures cause { IfErr result (λ refusal. (refusal ≡ Refusal.Memory) ⊎ Refuses Command.Check bytes.now refusal) }
+    ensures accepted { OnOk result (¬ IsRefusedText Command.Check bytes.now) }
+    ensures complete { Accepts Command.Check bytes.now → IfErr result (λ refusal. refusal ≡ Refusal.Memory) }
+{
+    check(alloc, bytes)?;
+    let text = Bytes::from_slice(alloc, ok())?;
+    Ok(text)
+}
+
+/// What a command writes for its whole input.
+fn answer(alloc: Global, command: Command, input: &[u8]) -> Result<Bytes, Refusal>
+    requires { length input.now ≤ limit_of command }
+    ensures gives { IfOk result (λ bytes. Gives command input.now bytes) }
+    ensures cause { IfErr result (λ refusal. (refusal ≡ Refusal.Memory) ⊎ Refuses command input.now refusal) }
+    ensures accepted { OnOk result (¬ IsRefusedText command input.now) }
+    ensures complete { Accepts command input.now → IfErr result (λ refusal. refusal ≡ Refusal.Memory) }
+{
+    match command {
+        Command::Compile => compile_input(alloc, input),
+        Command::Check => check_input(alloc, input),
     }
 }
 
-/// The container of the source that the input gives.
-fn prepare<I: Source>(alloc: Global, words: &[String], input: &mut I) -> Result<Bytes, Refusal>
-    ensures words { OnOk result (IsCompile (map string_bytes words.now)) }
-    ensures compiled { IfOk result (CompilesTo I.left I.taken input.old input.new) }
-    ensures cause { IfErr result (Stands I.left I.taken input.old input.new I.faults (map string_bytes words.now)) }
-    ensures other_words { ¬ IsCompile (map string_bytes words.now) → IsErrOf result Refusal.Usage }
-    ensures accepted { OnOk result (IfSome (I.left input.old) (λ text. ¬ IsRefused text)) }
-    ensures complete { IsCompile (map string_bytes words.now) → ¬ HasRisen (I.faults input.old) (I.faults input.new)
-        → IfSome (I.left input.old) (λ text. length text ≤ most_source → HasFirstForm text → IfErr result (λ refusal. refusal ≡ Refusal.Memory)) }
+/// What a command writes for what the input gives.
+fn run<I: Source>(alloc: Global, command: Command, input: &mut I) -> Result<Bytes, Refusal>
+    ensures gives { IfOk result (GivesAll I.left I.taken input.old input.new command) }
+    ensures cause { IfErr result (StandsFor I.left I.taken input.old input.new I.faults command) }
+    ensures accepted { OnOk result (IfSome (I.left input.old) (λ all. ¬ IsRefusedText command all)) }
+    ensures complete { ¬ HasRisen (I.faults input.old) (I.faults input.new)
+        → IfSome (I.left input.old) (λ all. length all ≤ limit_of command → Accepts command all → IfErr result (λ refusal. refusal ≡ Refusal.Memory)) }
 {
-    if !is_compile(words) {
-        return Err(Refusal::Usage);
-    }
-    let text = read_whole(alloc, input, MOST_SOURCE)?;
-    let bytes = compile(alloc, text.as_slice())?;
-    Ok(bytes)
+    let all = read_whole(alloc, input, command.limit())?;
+    answer(alloc, command, all.as_slice())
 }
 
 /// Writes the line to the notes, and answers the status where it was written whole.
@@ -62,7 +103,7 @@ fn tell<N: Sink>(notes: &mut N, status: Status, line: &[u8]) -> Status
     }
 }
 
-/// Writes the container to the output, and where that fails the line of it to the notes.
+/// Writes a result to the output, and where that fails the line of it to the notes.
 fn deliver<O: Sink, N: Sink>(output: &mut O, notes: &mut N, bytes: &[u8]) -> Status
     ensures ends { (result ≡ Status.Done) ⊎ (result ≡ Status.WriteFault) }
     ensures done { result ≡ Status.Done → Appends (O.written output.old) (O.written output.new) bytes.now
@@ -76,12 +117,23 @@ fn deliver<O: Sink, N: Sink>(output: &mut O, notes: &mut N, bytes: &[u8]) -> Sta
     }
 }
 
+/// Writes the line of a refusal to the notes, or that of want of memory where the line can't be made.
+fn refuse<N: Sink>(alloc: Global, notes: &mut N, refusal: Refusal) -> Status
+    ensures told { TellsOf N.written N.faults notes.old notes.new refusal result }
+    ensures lasting { N.faults notes.old ≤ N.faults notes.new }
+{
+    match refusal.line(alloc) {
+        Ok(line) => tell(notes, refusal.status(), line.as_bytes()),
+        Err(_) => tell(notes, Status::Memory, out_of_memory()),
+    }
+}
+
 /// Runs the tool.
 ///
-/// The only words are `compile`: the input is read to its end, and its container is written to the output.
-/// Each other end writes nothing to the output and one line to the notes, but for an output that fails:
-/// it has a front of the container then. `WriteFault` says that the output failed, or the notes as the
-/// line of another end was written to them.
+/// The words are `compile`, which writes the container of the source that the input gives, or `check`, which prints
+/// `ok` where the input is a container that passes. Each other end writes nothing to the output and one line to the
+/// notes, but for an output that fails: it has a front of the result then. `WriteFault` says that the output failed,
+/// or the notes as the line of another end was written to them.
 pub fn tool<I: Source, O: Sink, N: Sink>(
     alloc: Global,
     words: &[String],
@@ -89,15 +141,16 @@ pub fn tool<I: Source, O: Sink, N: Sink>(
     output: &mut O,
     notes: &mut N,
 ) -> Status
-    // The output has the container of all that was left, and the notes have nothing.
+    // The output has what the command gives for all that was left, and the notes have nothing.
     ensures done { result ≡ Status.Done → IsDone I.left I.taken I.faults O.written N.written
         (map string_bytes words.now) input.old input.new output.old output.new notes.old notes.new }
 
     // Each other answer has its cause.
-    ensures usage { result ≡ Status.Usage → ¬ IsCompile (map string_bytes words.now) }
+    ensures usage { result ≡ Status.Usage → IsUsage (map string_bytes words.now) }
     ensures read_fault { result ≡ Status.ReadFault → HasRisen (I.faults input.old) (I.faults input.new) }
-    ensures refused { result ≡ Status.Refused → IsTooLong I.left I.taken input.old input.new
-        ⊎ IsNotBuilt I.left I.taken input.old input.new }
+    ensures refused { result ≡ Status.Refused → (command : Command) × (map string_bytes words.now ≡ words_of command)
+        × (IsTooLong I.left I.taken input.old input.new command
+        ⊎ ((refusal : Refusal) × IsBadInput I.left I.taken input.old input.new command refusal)) }
     ensures write_fault { result ≡ Status.WriteFault →
         FailsOutput I.left I.taken I.faults O.written N.written (map string_bytes words.now)
         input.old input.new output.old output.new notes.old notes.new O.faults N.faults
@@ -110,20 +163,22 @@ pub fn tool<I: Source, O: Sink, N: Sink>(
         input.old input.new output.old output.new notes.old notes.new result }
 
     // Where a refusal stands, no other end comes.
-    ensures other_words { ¬ IsCompile (map string_bytes words.now) → (result ≡ Status.Usage) ⊎ (result ≡ Status.WriteFault) }
-    ensures refusals { IsCompile (map string_bytes words.now) → IfSome (I.left input.old) (λ text. IsRefused text → IsStop result) }
+    ensures other_words { IsUsage (map string_bytes words.now)
+        → (result ≡ Status.Usage) ⊎ ((result ≡ Status.Memory) ⊎ (result ≡ Status.WriteFault)) }
+    ensures refusals { (command : Command) → map string_bytes words.now ≡ words_of command
+        → IfSome (I.left input.old) (λ all. IsRefusedText command all → IsStop result) }
 
-    // A text of the first form within the limit is compiled, unless memory is refused.
-    ensures complete { IsCompile (map string_bytes words.now)
+    // An input that is accepted has its result written, unless memory is refused.
+    ensures complete { (command : Command) → map string_bytes words.now ≡ words_of command
         → ¬ HasRisen (I.faults input.old) (I.faults input.new) → ¬ HasRisen (O.faults output.old) (O.faults output.new)
-        → IfSome (I.left input.old) (λ text. length text ≤ most_source → HasFirstForm text
+        → IfSome (I.left input.old) (λ all. length all ≤ limit_of command → Accepts command all
         → IsDoneOrMemory result (HasRisen (N.faults notes.old) (N.faults notes.new))) }
 {
-    match prepare(alloc, words, input) {
-        Ok(bytes) => deliver(output, notes, bytes.as_slice()),
-        Err(refusal) => tell(notes, refusal.status(), refusal.line()),
+    match Command::from_words(words) {
+        None => refuse(alloc, notes, Refusal::Usage),
+        Some(command) => match run(alloc, command, input) {
+            Ok(bytes) => deliver(output, notes, bytes.as_slice()),
+            Err(refusal) => refuse(alloc, notes, refusal),
+        },
     }
 }
-
-#[cfg(test)]
-mod tests;

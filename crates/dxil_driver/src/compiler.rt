@@ -3,13 +3,11 @@
 ghost use Rattle.std.specs.Prelude.{◌<◌, ◌≤◌, ◌⊎◌, length, IfOk, OnOk, IsErrOf};
 ghost use Rattle.dxil_driver.specs.Compiled.{most_source, HasFirstForm, Compiled};
 
+use crate::command::MOST_SOURCE;
 use crate::container::kernel_container;
 use crate::first_form::first_form;
 use base_core::{Bytes, NoMemory};
 use std::alloc::Global;
-
-/// The greatest number of bytes of a source.
-pub const MOST_SOURCE: usize = 1048576;
 
 /// Why a text isn't compiled.
 #[derive(Clone, Copy, Debug, PartialEq, Eq)]
@@ -59,6 +57,3 @@ pub fn compile(alloc: Global, text: &[u8]) -> Result<Bytes, CompileFault>
         }
     }
 }
-
-#[cfg(test)]
-mod tests;

@@ -1,6 +1,8 @@
 //! The compiler and its tool as a library.
 #![tactic(auto)]
 
+pub mod checker;
+pub mod command;
 pub mod commands;
 pub mod compiler;
 mod container;
@@ -11,6 +13,8 @@ mod scan;
 pub mod status;
 mod stores;
 
+pub use checker::{CheckFault, check};
+pub use command::Command;
 pub use commands::tool;
 pub use compiler::{CompileFault, compile};
 pub use refusal::Refusal;

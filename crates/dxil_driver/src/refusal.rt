@@ -1,11 +1,17 @@
 //! Why a run of the tool ends before its first write to the output.
 
-ghost use Rattle.std.specs.Prelude.{◌≡◌};
-ghost use Rattle.dxil_driver.specs.Refusal.{status_of, line_of, refusal_of_stop, refusal_of_fault};
+ghost use Rattle.std.specs.Prelude.{◌≡◌, IfOk, string_bytes};
+ghost use Rattle.dxil_driver.specs.Refusal.{status_of, line_of, refusal_of_stop, refusal_of_compile, refusal_of_check};
 
+use crate::checker::CheckFault;
 use crate::compiler::CompileFault;
 use crate::status::Status;
-use base_core::ReadStop;
+use base_core::{NoMemory, ReadStop};
+use bc_records::RecordFault;
+use bc_stream::StreamFault;
+use dx_container::ContainerFault;
+use ir_core::Spot;
+use std::alloc::{AllocError, Global};
 
 /// Why a run of the tool ends before its first write to the output, in the order in which the causes are
 /// looked at; memory may be refused at any of these places.
@@ -15,10 +21,18 @@ pub enum Refusal {
     Usage,
     /// The input failed.
     ReadFault,
-    /// The source has more than 1048576 bytes.
+    /// The input has more bytes than the command takes.
     TooLong,
     /// The source isn't of the form that is compiled so far.
     NotBuilt,
+    /// The bytes are no container.
+    Container(ContainerFault),
+    /// The bitcode spells no blocks.
+    Stream { kind: u8, bit: u64 },
+    /// The blocks record no module.
+    Records { kind: u8, block: u32, at: u32 },
+    /// The module breaks a rule of the validator.
+    Broken { rule: u8, spot: Spot },
     /// Memory was refused.
     Memory,
 }
@@ -31,22 +45,52 @@ impl Refusal {
         match self {
             Refusal::Usage => Status::Usage,
             Refusal::ReadFault => Status::ReadFault,
-            Refusal::TooLong | Refusal::NotBuilt => Status::Refused,
             Refusal::Memory => Status::Memory,
+            Refusal::TooLong
+            | Refusal::NotBuilt
+            | Refusal::Container(_)
+            | Refusal::Stream { .. }
+            | Refusal::Records { .. }
+            | Refusal::Broken { .. } => Status::Refused,
         }
     }
 
     /// The line for the notes, with its line feed.
-    pub fn line(self) -> &'static [u8]
-        ensures { result.now ≡ line_of self }
+    ///
+    /// # Errors
+    /// `AllocError` where memory is refused.
+    pub fn line(self, alloc: Global) -> Result<String, AllocError>
+        ensures { IfOk result (λ line. string_bytes line ≡ line_of self) }
     {
         match self {
-            Refusal::Usage => b"usage: dxil_cli compile\n",
-            Refusal::ReadFault => b"error: read fault\n",
-            Refusal::TooLong => b"error: too long\n",
-            Refusal::NotBuilt => b"error: not built\n",
-            Refusal::Memory => b"error: out of memory\n",
+            Refusal::Usage => format!(in alloc; "usage: dxil_cli compile | check\n"),
+            Refusal::ReadFault => format!(in alloc; "error: read fault\n"),
+            Refusal::TooLong => format!(in alloc; "error: too long\n"),
+            Refusal::NotBuilt => format!(in alloc; "error: not built\n"),
+            Refusal::Container(ContainerFault { kind, offset }) => {
+                format!(in alloc; "error: container {kind} at {offset}\n")
+            }
+            Refusal::Stream { kind, bit } => {
+                format!(in alloc; "error: stream {kind} at bit {bit}\n")
+            }
+            Refusal::Records { kind, block, at } => {
+                format!(in alloc; "error: records {kind} at block {block} record {at}\n")
+            }
+            Refusal::Broken { rule, spot } => {
+                format!(in alloc; "error: broken V{rule} at {spot}\n")
+            }
+            Refusal::Memory => format!(in alloc; "error: out of memory\n"),
         }
+    }
+}
+
+impl From<NoMemory> for Refusal {
+    ghost use Rattle.dxil_driver.specs.declared.refusal.Refusal.TheVariants.{Memory};
+
+    ghost from_gives = { λ _ refusal. refusal ≡ Memory };
+
+    fn from(_refused: NoMemory) -> Refusal {
+        Refusal::Memory
     }
 }
 
@@ -63,13 +107,31 @@ impl From<ReadStop> for Refusal {
 }
 
 impl From<CompileFault> for Refusal {
-    ghost from_gives = { λ fault refusal. refusal ≡ refusal_of_fault fault };
+    ghost from_gives = { λ fault refusal. refusal ≡ refusal_of_compile fault };
 
     fn from(fault: CompileFault) -> Refusal {
         match fault {
             CompileFault::TooLong => Refusal::TooLong,
             CompileFault::Unbuilt => Refusal::NotBuilt,
             CompileFault::Memory => Refusal::Memory,
+        }
+    }
+}
+
+impl From<CheckFault> for Refusal {
+    ghost from_gives = { λ fault refusal. refusal ≡ refusal_of_check fault };
+
+    fn from(fault: CheckFault) -> Refusal {
+        match fault {
+            CheckFault::Container(fault) => Refusal::Container(fault),
+            CheckFault::Stream(StreamFault::Bad { kind, bit }) => Refusal::Stream { kind, bit },
+            CheckFault::Records(RecordFault::Bad { kind, block, at }) => {
+                Refusal::Records { kind, block, at }
+            }
+            CheckFault::Rules { rule, spot } => Refusal::Broken { rule, spot },
+            CheckFault::Stream(StreamFault::Memory)
+            | CheckFault::Records(RecordFault::Memory)
+            | CheckFault::Memory => Refusal::Memory,
         }
     }
 }

@@ -7,7 +7,7 @@ use Rattle.bc_records.proofs.metadata.part_numbers.Goals as goal
 
 pub loop-part-preserved : goal.loop-part-preserved
 loop-part-preserved c = record {
-  so_far = c.in_ok-push.ensures.ok
+  so_far = c.in_ok-push.ensures.items
       ∙ (ap (λ values. values ++ c.part_number.result ∷ []) c.loop-part.invariant.so_far
       ∙ (ap (λ number. map written_part (take c.loop-part.part-index c.as_slice-all.result.now) ++ number ∷ []) c.part_number.ensures.value
       ∙ sym (map_more written_part c.as_slice-all.result.now c.loop-part.part-index None c.loop-part-test.true)));

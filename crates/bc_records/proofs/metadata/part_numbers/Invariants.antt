@@ -6,6 +6,6 @@ use Rattle.bc_records.proofs.metadata.part_numbers.Given as goal
 
 abbrev pub invariant-loop-part : goal.invariant-loop-part
 invariant-loop-part l = record {
-  so_far : l.values ≡ map written_part (take l.part-index l.all);
+  so_far : l.values.items ≡ map written_part (take l.part-index l.all);
   range : All PartInRange (take l.part-index l.all);
 }

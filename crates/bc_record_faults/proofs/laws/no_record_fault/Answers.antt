@@ -1,5 +1,0 @@
-use Rattle.bc_record_faults.proofs.NoRecordFault.{no_record_fault}
-use Rattle.bc_record_faults.proofs.laws.no_record_fault.Goals as goal
-
-pub returns : goal.returns
-returns c = no_record_fault

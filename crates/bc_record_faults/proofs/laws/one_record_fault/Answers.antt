@@ -1,5 +1,0 @@
-use Rattle.bc_record_faults.proofs.OneRecordFault.{one_record_fault}
-use Rattle.bc_record_faults.proofs.laws.one_record_fault.Goals as goal
-
-pub returns : goal.returns
-returns c = one_record_fault

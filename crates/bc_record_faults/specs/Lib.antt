@@ -1,3 +1,0 @@
-pub mod FaultSites
-pub mod RecordFaults
-pub mod RecordKinds

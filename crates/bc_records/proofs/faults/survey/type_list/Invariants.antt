@@ -1,0 +1,9 @@
+use Rattle.std.proofs.Common.{◌≡◌, map}
+use Rattle.bc_records.specs.Entries.{entries_in}
+use Rattle.bc_records.specs.HeldEntries.{entry_form}
+use Rattle.bc_records.specs.RecordKinds.{type_entries}
+use Rattle.bc_records.proofs.FaultWalk.{past}
+use Rattle.bc_records.proofs.faults.survey.type_list.Given as goal
+
+abbrev pub invariant-loop-part : goal.invariant-loop-part
+invariant-loop-part l = map entry_form l.types.items ≡ type_entries (entries_in (past l.parts l.part-index))

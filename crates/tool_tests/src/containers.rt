@@ -1,0 +1,63 @@
+//! Containers of small kernels, by their bytes as the formats give them.
+
+use dxil_driver::{CompileFault, compile};
+use std::test::Fail;
+
+/// A kernel of two stores.
+const TWO_STORES: &[u8] =
+    b"RWByteAddressBuffer o : register(u0); [numthreads(1,1,1)] void main() { o.Store(0, 7); o.Store(4, 4294967295); }";
+
+#[test]
+fn an_empty_kernel_has_its_container(rt: HostRuntime) -> Result<(), Fail> {
+    let container = compile(rt.alloc(), b"[numthreads(1,1,1)] void main() {}")
+        .ok()
+        .ok_or("no container")?;
+    let bytes = container.as_slice();
+    assert!(rt; bytes.len() > 140);
+    assert_eq!(rt; &bytes[..4], b"DXBC".as_slice());
+    assert_eq!(rt; &bytes[4..20], [0; 16].as_slice());
+    assert_eq!(rt; &bytes[20..24], [1, 0, 0, 0].as_slice());
+    assert_eq!(rt;
+        &bytes[24..28],
+        (bytes.len() as u32).to_le_bytes().as_slice()
+    );
+    assert_eq!(rt; &bytes[28..32], [4, 0, 0, 0].as_slice());
+    assert_eq!(rt;
+        &bytes[32..48],
+        [0x30, 0, 0, 0, 0x40, 0, 0, 0, 0x50, 0, 0, 0, 0x60, 0, 0, 0].as_slice()
+    );
+    assert_eq!(rt; &bytes[104..108], [0x60, 0, 5, 0].as_slice());
+    assert_eq!(rt; &bytes[112..116], b"DXIL".as_slice());
+    assert_eq!(rt; &bytes[116..124], [0, 1, 0, 0, 0x10, 0, 0, 0].as_slice());
+    assert_eq!(rt;
+        &bytes[124..128],
+        (bytes.len() as u32 - 128).to_le_bytes().as_slice()
+    );
+    assert_eq!(rt;
+        &bytes[128..136],
+        [0x42, 0x43, 0xC0, 0xDE, 0x21, 0x0C, 0, 0].as_slice()
+    );
+    Ok(())
+}
+
+#[test]
+fn literal_stores_compile(rt: HostRuntime) -> Result<(), Fail> {
+    assert!(rt; compile(rt.alloc(), TWO_STORES).is_ok());
+    Ok(())
+}
+
+#[test]
+fn other_texts_are_not_built(rt: HostRuntime) -> Result<(), Fail> {
+    let texts: [&[u8]; 3] = [
+        b"void f() {}",
+        b"",
+        b"[numthreads(1,1,1)] void main() {} // a comment",
+    ];
+    for text in texts {
+        assert_eq!(rt;
+            compile(rt.alloc(), text).err(),
+            Some(CompileFault::Unbuilt)
+        );
+    }
+    Ok(())
+}

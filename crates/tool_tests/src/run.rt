@@ -1,0 +1,127 @@
+//! One run for each way to end.
+
+use base_core::{Bytes, Calls, MemorySink, MemorySource, PlainSource, Source};
+use dxil_driver::{Status, tool};
+use std::process::Abort;
+use std::test::Fail;
+
+/// The status of a run, what the output has, and what the notes have.
+#[derive(Drop)]
+struct Run {
+    status: Status,
+    output: MemorySink,
+    notes: MemorySink,
+}
+
+fn sink(rt: &HostRuntime, failing: &[u64]) -> Result<MemorySink, Fail> {
+    let failing = Calls::from_slice(rt.alloc(), failing)?;
+    Ok(MemorySink::new(rt.alloc(), 64, 3, failing)?)
+}
+
+fn run_tool<I: Source>(
+    rt: &HostRuntime,
+    words: &[&str],
+    input: &mut I,
+    failing_notes: &[u64],
+) -> Result<Run, Fail> {
+    let mut owned = Vec::new(rt.alloc());
+    for word in words {
+        owned.push(String::from_str(rt.alloc(), word)?)?;
+    }
+    let mut output = sink(rt, &[])?;
+    let mut notes = sink(rt, failing_notes)?;
+    let status = tool(rt.alloc(), &owned, input, &mut output, &mut notes);
+    Ok(Run {
+        status,
+        output,
+        notes,
+    })
+}
+
+fn assert_refused(rt: &impl Abort, run: &Run, status: Status, line: &[u8]) {
+    assert_eq!(rt; run.status, status);
+    assert_eq!(rt; run.notes.written(), line);
+    assert_eq!(rt; run.output.written().len(), 0);
+}
+
+#[test]
+fn other_words_are_answered_with_the_usage(rt: HostRuntime) -> Result<(), Fail> {
+    let lists: [&[&str]; 3] = [&[], &["compil"], &["compile", "compile"]];
+    for words in lists {
+        let mut input = PlainSource::new(Bytes::new(rt.alloc()));
+        let run = run_tool(&rt, words, &mut input, &[])?;
+        assert_refused(
+            &rt,
+            &run,
+            Status::Usage,
+            b"usage: dxil_cli compile | check\n",
+        );
+    }
+    Ok(())
+}
+
+#[test]
+fn an_input_that_fails_is_a_read_fault(rt: HostRuntime) -> Result<(), Fail> {
+    for call in 0..2u64 {
+        let text = Bytes::from_slice(rt.alloc(), b"void f() {}")?;
+        let failing = Calls::from_slice(rt.alloc(), &[call])?;
+        let mut input = MemorySource::new(text, 4, failing);
+        let run = run_tool(&rt, &["compile"], &mut input, &[])?;
+        assert_refused(&rt, &run, Status::ReadFault, b"error: read fault\n");
+    }
+    Ok(())
+}
+
+#[test]
+fn texts_are_refused(rt: HostRuntime) -> Result<(), Fail> {
+    let long = vec![in rt.alloc(); b' '; 1048577]?;
+    let texts: [(&[u8], &[u8]); 2] = [
+        (long.as_slice(), b"error: too long\n"),
+        (b"void f() {}", b"error: not built\n"),
+    ];
+    for (text, line) in texts {
+        let mut input = PlainSource::new(Bytes::from_slice(rt.alloc(), text)?);
+        let run = run_tool(&rt, &["compile"], &mut input, &[])?;
+        assert_refused(&rt, &run, Status::Refused, line);
+    }
+    Ok(())
+}
+
+#[test]
+fn notes_that_fail_have_a_front_of_the_line(rt: HostRuntime) -> Result<(), Fail> {
+    let mut input = PlainSource::new(Bytes::new(rt.alloc()));
+    let run = run_tool(&rt, &[], &mut input, &[1])?;
+    assert_refused(&rt, &run, Status::WriteFault, b"usa");
+    Ok(())
+}
+
+/// The text of an empty kernel.
+const EMPTY_KERNEL: &[u8] = b"[numthreads(1,1,1)] void main() {}";
+
+#[test]
+fn an_output_that_fails_has_a_front_of_the_container(rt: HostRuntime) -> Result<(), Fail> {
+    let mut words = Vec::new(rt.alloc());
+    words.push(String::from_str(rt.alloc(), "compile")?)?;
+    let mut input = PlainSource::new(Bytes::from_slice(rt.alloc(), EMPTY_KERNEL)?);
+    let mut output = sink(&rt, &[1])?;
+    let mut notes = sink(&rt, &[])?;
+    let status = tool(rt.alloc(), &words, &mut input, &mut output, &mut notes);
+    assert_eq!(rt; status, Status::WriteFault);
+    assert_eq!(rt; output.written(), b"DXB".as_slice());
+    assert_eq!(rt; notes.written(), b"error: write fault\n".as_slice());
+    Ok(())
+}
+
+#[test]
+fn a_kernel_is_compiled(rt: HostRuntime) -> Result<(), Fail> {
+    let mut words = Vec::new(rt.alloc());
+    words.push(String::from_str(rt.alloc(), "compile")?)?;
+    let mut input = PlainSource::new(Bytes::from_slice(rt.alloc(), EMPTY_KERNEL)?);
+    let mut output = MemorySink::new(rt.alloc(), 4096, 4096, Calls::new(rt.alloc()))?;
+    let mut notes = sink(&rt, &[])?;
+    let status = tool(rt.alloc(), &words, &mut input, &mut output, &mut notes);
+    assert_eq!(rt; status, Status::Done);
+    assert!(rt; output.written().len() > 128);
+    assert_eq!(rt; notes.written().len(), 0);
+    Ok(())
+}

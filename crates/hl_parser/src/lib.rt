@@ -20,6 +20,8 @@ mod statements;
 mod step;
 mod symbol;
 mod take;
+#[cfg(test)]
+mod tests;
 mod tree;
 mod values;
 

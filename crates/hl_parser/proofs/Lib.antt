@@ -1,0 +1,27 @@
+pub mod Runs
+pub mod Shapes
+pub mod Terminals
+pub mod Opening
+pub mod Claims
+pub mod Moves
+pub mod ReadExpressions
+pub mod StandsAs
+pub mod ReadLists
+pub mod ReadDeclarations
+pub mod ReadFunctions
+pub mod ReadStatements
+pub mod Complete
+pub mod Words
+pub mod Soundness
+pub mod SoundDeclarations
+pub mod SoundStatements
+pub mod SoundRun
+pub mod Independence
+pub mod Completion
+pub mod Progress
+pub mod Plain
+pub mod StackFacts
+pub mod FeedFacts
+pub mod ParseFacts
+pub mod Deep
+mod TreesAppend

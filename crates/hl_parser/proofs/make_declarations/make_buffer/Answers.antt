@@ -1,0 +1,23 @@
+use Rattle.std.proofs.Common.{◌≡◌, ◌∙◌, sym, ap, subst, Option, None, Some, IfOk, arith}
+use Rattle.hl_parser.specs.declared.act.Act.TheVariants as acts
+use Rattle.hl_parser.specs.Grammar as grammar
+use Rattle.hl_parser.specs.Held.{Makes, values_of}
+use Rattle.hl_parser.specs.Machine.{act_on, put}
+use Rattle.hl_parser.specs.Trees.{a_buffer, no_trees}
+use Rattle.hl_parser.specs.Trees as plain
+use Rattle.hl_parser.specs.Views.{plain_maybe, plain_of, plain_trees}
+use Rattle.hl_parser.proofs.Plain.{plain-Buffer}
+use Rattle.hl_parser.proofs.make_declarations.make_buffer.Goals as goal
+
+pub put-requires : goal.put-requires
+put-requires c =
+    let same = plain-Buffer c.at-at.result c.in-Some-take_tree.kind.tree c.in-Some-take_token.name c.in-Some-take_option.register c.in-Some.space in
+    omega (arith, ap plain.depth same, c.in-Some-take_tree.kind.measured)
+
+pub returns : goal.returns
+returns c =
+    let same = plain-Buffer c.at-at.result c.in-Some-take_tree.kind.tree c.in-Some-take_token.name c.in-Some-take_option.register c.in-Some.space in
+    let rest = values_of c.take_tree.new.values in
+    subst (λ k. IfOk c.put.result (λ made. Makes k made c.put.new.values))
+    (sym (c.in-Some.ensures _ ∙ (c.in-Some-take_option.ensures _ ∙ (c.in-Some-take_token.ensures _ ∙ (c.in-Some-take_tree.ensures _ ∙ (ap (λ t. put t rest) (ap (λ a. a_buffer a (plain_of c.in-Some-take_tree.kind.tree) c.in-Some-take_token.name c.in-Some-take_option.register c.in-Some.space) (sym (c.at-at.ensures ∙ ap (λ t. plain.at_of (plain_of t)) c.get.ensures)) ∙ sym same)))))))
+    c.put.ensures

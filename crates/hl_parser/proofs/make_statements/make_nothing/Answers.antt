@@ -1,0 +1,23 @@
+use Rattle.std.proofs.Common.{◌≡◌, ◌∙◌, sym, ap, subst, Option, None, Some, IfOk, arith}
+use Rattle.hl_parser.specs.declared.act.Act.TheVariants as acts
+use Rattle.hl_parser.specs.Grammar as grammar
+use Rattle.hl_parser.specs.Held.{Makes, values_of}
+use Rattle.hl_parser.specs.Machine.{act_on, put}
+use Rattle.hl_parser.specs.Trees.{a_stmt, no_trees}
+use Rattle.hl_parser.specs.Trees as plain
+use Rattle.hl_parser.specs.Views.{plain_maybe, plain_of, plain_trees}
+use Rattle.hl_parser.proofs.Plain.{plain-Stmt}
+use Rattle.hl_parser.proofs.make_statements.make_nothing.Goals as goal
+
+pub put-requires : goal.put-requires
+put-requires c =
+    let same = plain-Stmt c.in-Some.at None in
+    omega (arith, ap plain.depth same)
+
+pub returns : goal.returns
+returns c =
+    let same = plain-Stmt c.in-Some.at None in
+    let rest = values_of c.take_token.new.values in
+    subst (λ k. IfOk c.put.result (λ made. Makes k made c.put.new.values))
+    (sym (c.in-Some.ensures _ ∙ (ap (λ t. put t rest) (sym same))))
+    c.put.ensures

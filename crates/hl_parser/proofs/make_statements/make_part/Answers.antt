@@ -1,0 +1,23 @@
+use Rattle.std.proofs.Common.{◌≡◌, ◌∙◌, sym, ap, subst, Option, None, Some, IfOk, arith}
+use Rattle.hl_parser.specs.declared.act.Act.TheVariants as acts
+use Rattle.hl_parser.specs.Grammar as grammar
+use Rattle.hl_parser.specs.Held.{Makes, values_of}
+use Rattle.hl_parser.specs.Machine.{act_on, put}
+use Rattle.hl_parser.specs.Trees.{a_stmt, no_trees}
+use Rattle.hl_parser.specs.Trees as plain
+use Rattle.hl_parser.specs.Views.{plain_maybe, plain_of, plain_trees}
+use Rattle.hl_parser.proofs.Plain.{plain-Stmt}
+use Rattle.hl_parser.proofs.make_statements.make_part.Goals as goal
+
+pub put-requires : goal.put-requires
+put-requires c =
+    let same = plain-Stmt c.at-at.result (Some c.in-Some.part.tree) in
+    omega (arith, ap plain.depth same, c.in-Some.part.measured)
+
+pub returns : goal.returns
+returns c =
+    let same = plain-Stmt c.at-at.result (Some c.in-Some.part.tree) in
+    let rest = values_of c.take_tree.new.values in
+    subst (λ k. IfOk c.put.result (λ made. Makes k made c.put.new.values))
+    (sym (c.in-Some.ensures _ ∙ (ap (λ t. put t rest) (ap (λ a. a_stmt a (plain_maybe (Some c.in-Some.part.tree))) (sym (c.at-at.ensures ∙ ap (λ t. plain.at_of (plain_of t)) c.get.ensures)) ∙ sym same))))
+    c.put.ensures

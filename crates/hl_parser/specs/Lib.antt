@@ -1,0 +1,9 @@
+pub mod Codes
+pub mod Grammar
+pub mod Held
+pub mod Laws
+pub mod Machine
+pub mod Parsing
+pub mod Parts
+pub mod Trees
+pub mod Views

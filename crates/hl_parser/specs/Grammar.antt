@@ -1,4 +1,4 @@
--- The grammar: how tokens spell a tree, and which tokens begin a program (HLSL language specification, "Grammar").
+-- The grammar, a part of that of HLSL: how tokens spell a tree, and which tokens begin a program.
 --
 -- A production is a step from the tokens before it to those behind it, and steps are put one behind the other as the
 -- symbols of a production are. In the comments braces mean repetition, brackets an optional part, and tokens stand in

@@ -1,4 +1,4 @@
-//! The tree of a source text (HLSL language specification, "Grammar").
+//! The tree of a source text, by a grammar that is a part of that of HLSL.
 #![tactic(auto)]
 
 mod act;

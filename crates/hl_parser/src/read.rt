@@ -18,8 +18,9 @@ use std::alloc::Global;
 /// The tree that tokens spell.
 ///
 /// # Errors
-/// - `Syntax` where the tokens spell no program.
-/// - `TooDeep` where the tree that they spell is deeper than 64.
+/// - `Syntax` exactly where the tokens spell no program: the least index such that the tokens through it begin none, or
+///   their number where all of them begin one.
+/// - `TooDeep` exactly where the tree that they spell is deeper than 64.
 /// - `Memory` where memory was refused.
 pub fn parse(alloc: Global, tokens: &Tokens) -> Result<Tree, ParseFault>
     // What is answered is the tree that the tokens spell, and it isn't too deep.

@@ -9,7 +9,8 @@ use sqlite_items::{Boxed, Items};
 /// Trees in order.
 pub type Trees = Items<Tree>;
 
-/// A part of a program, one variant for each production of the grammar (HLSL language specification, "Grammar").
+/// A part of a program, one variant for each production of the grammar, which is a part of that of HLSL; the mark of an
+/// assignment is an index in `Expr`.
 ///
 /// `at` is the index of the first token. The other parts stand in order: trees, and the indices of those tokens that
 /// say more than that they stand there. A production of expressions with one part alone makes no tree of its own, so

@@ -15,6 +15,8 @@ pub type LiteralStores = Sequence<LiteralStore>;
 /// A kernel of literal stores to one byte-address buffer.
 #[derive(Debug, Drop)]
 pub struct FirstForm {
+    /// The entry's name.
+    pub entry: Text,
     /// The buffer's name, where one is declared.
     pub buffer: Option<Text>,
     /// The threads of a group along x, y and z.

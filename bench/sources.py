@@ -20,9 +20,10 @@ COMMENT = re.compile(rb'/\*.*?\*/|//[^\n]*', re.S)
 OPERATORS = ['+'] * 8 + ['-'] * 5 + ['*'] * 6 + ['/', '%', '<<', '>>', '&', '|', '^']
 TESTS = ['<'] * 4 + ['<=', '>', '>='] + ['=='] * 3 + ['!='] * 2
 ASSIGNMENTS = ['='] * 12 + ['+='] * 4 + ['-=', '*=', '/=', '%=', '&=', '|=', '^=', '<<=', '>>=']
-TYPES = ['uint'] * 6 + ['int'] * 5 + ['uint2', 'uint3', 'uint4', 'int2', 'int3', 'int4', 'bool', 'bool2', 'bool3', 'bool4']
-NAMES = ['i'] * 4 + ['index', 'value', 'sum', 'count', 'k', 'x', 'offset', 'lane', 'left', 'right', 'best', 'group_index',
-                     'total', 'stride', 'mask', 'first', 'last_block', 'radius', 'weight']
+TYPES = ['uint'] * 6 + ['int'] * 5 + ['uint2', 'uint3', 'uint4', 'int2', 'int3', 'int4',
+                                      'bool', 'bool2', 'bool3', 'bool4']
+NAMES = ['i'] * 4 + ['index', 'value', 'sum', 'count', 'k', 'x', 'offset', 'lane', 'left', 'right', 'best',
+                     'group_index', 'total', 'stride', 'mask', 'first', 'last_block', 'radius', 'weight']
 FIELDS = ['x', 'y', 'xy', 'xyz', 'w', 'position', 'next', 'weights']
 CALLS = ['min', 'max', 'countbits', 'firstbithigh', 'WaveActiveSum', 'blend', 'hash', 'reversebits']
 COMMENTS = ['the rows that this group has left', 'wraps at the end of the buffer', 'see the header',
@@ -97,9 +98,11 @@ class Kernels:
         return text if self.chance(0.7) else f'{text} {self.pick(["&&", "||"])} {self.unary(level)}'
 
     def expression(self, level=2):
-        return self.one_of((lambda: self.operation(level), 12),
-                           (lambda: self.test(level), 2),
-                           (lambda: f'{self.test(level - 1)} ? {self.operation(level - 1)} : {self.operation(level - 1)}', 1))
+        return self.one_of((lambda: self.operation(level), 12), (lambda: self.test(level), 2),
+                           (lambda: self.choice(level - 1), 1))
+
+    def choice(self, level):
+        return f'{self.test(level)} ? {self.operation(level)} : {self.operation(level)}'
 
     def place(self):
         return self.one_of((lambda: self.pick(NAMES), 6),
@@ -153,7 +156,8 @@ class Kernels:
                            (lambda: headed('do', self.body(level), f' while ({self.test(1)});'), 1))
 
     def statement(self, level):
-        simple = [(lambda: [self.local() + ';'], 6), (lambda: [self.assignment() + ';'], 9), (lambda: [self.effect() + ';'], 4),
+        simple = [(lambda: [self.local() + ';'], 6), (lambda: [self.assignment() + ';'], 9),
+                  (lambda: [self.effect() + ';'], 4),
                   (lambda: [self.pick(['break;', 'continue;', 'return;', ';'])], 1),
                   (lambda: [f'return {self.expression(2)};'], 1), (lambda: ['// ' + self.pick(COMMENTS)], 4)]
         nested = [(lambda: self.branch(level - 1), 3), (lambda: self.loop(level - 1), 3),
@@ -245,7 +249,8 @@ def repeated(before, part, after, behind=b'', middle=b'', times=1 << 20):
     another part."""
     def make(most_bytes, most_tokens):
         around, inner = before + middle + after, part + behind
-        most = min((most_bytes - len(around)) // len(inner), (most_tokens - tokens_of(around)) // tokens_of(inner), times)
+        most = min((most_bytes - len(around)) // len(inner),
+                   (most_tokens - tokens_of(around)) // tokens_of(inner), times)
         return before + most * part + middle + most * behind + after
     return make
 

@@ -57,5 +57,6 @@ pub mod FaultCounts
 pub mod FaultNumbers
 pub mod FaultSurvey
 pub mod FaultModules
+pub mod FaultFlat
 pub mod FaultOuter
 pub mod FaultOrder

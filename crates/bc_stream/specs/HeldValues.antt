@@ -10,5 +10,5 @@ values_held (Many list) = list
 
 -- There are no more values in place than places.
 abbrev pub IsHeld : Held → Type 0
-IsHeld (Few count places) = count ≤ 5
+IsHeld (Few count places) = count ≤ 4
 IsHeld (Many list) = Unit {0}

@@ -96,4 +96,4 @@ pub record HeadOfFew (bytes : List ℕ) (width : ℕ) (at : ℕ) (head : Head) :
   pub code : NumberAt bytes 5 (at + width) (record { value = Some head.code; to = behind })
   pub count : NumberAt bytes 5 behind (record { value = Some head.count; to = head.to })
   pub small : head.code < 2 ^ 32
-  pub few : head.count ≤ 5
+  pub few : head.count ≤ 4

@@ -76,7 +76,7 @@ pub(crate) fn read_few(bytes: &[u8], scope: Scope, at: usize) -> Option<FewRead>
     requires short { length bytes.now < 2 ^ 32 }
     requires inside { 0 < scope.levels }
     requires within { at ≤ 8 * length bytes.now }
-    ensures count { IfSome result (λ found. found.count ≤ 5) }
+    ensures count { IfSome result (λ found. found.count ≤ 4) }
     ensures entry { IfSome result (λ found. EntryAt bytes.now scope at found.code (take found.count found.places) found.to) }
 {
     let Some(head) = read_head(bytes, scope.width, at) else {

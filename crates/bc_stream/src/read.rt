@@ -20,12 +20,16 @@ use crate::values::Values;
 use base_core::NoMemory;
 use sqlite_items::Items;
 use std::alloc::Global;
+use std::mem;
 
 /// "BC" and 0xC0DE, with which a stream of blocks begins.
 const MAGIC: [u8; 4] = [0x42, 0x43, 0xC0, 0xDE];
 
 /// Where the first piece begins.
 const START: usize = 32;
+
+/// The greatest number of parts that are copied rather than handed over with the room for more.
+const MOST_COPIED: usize = 64;
 
 /// What stands outside all blocks.
 const OUTSIDE: Scope = Scope {
@@ -75,31 +79,57 @@ fn push_part(parts: &mut Vec<Part>, part: Part) -> Result<(), NoMemory>
     Ok(())
 }
 
+/// Takes all parts that were gathered. Few of them are copied, so that the room of the vector serves the next block.
+///
+/// # Errors
+/// `NoMemory` where memory is refused.
+fn take_parts(alloc: Global, parts: &mut Vec<Part>) -> Result<Parts, NoMemory>
+    ensures taken { IfOk result (λ all. all ≡ parts.old.items) }
+    ensures left { OnOk result (parts.new.items ≡ []) }
+{
+    if parts.len() > MOST_COPIED {
+        let all = mem::replace(parts, Vec::new(alloc));
+        return Ok(Items::from_vec(all));
+    }
+    let few = parts.split_off(0)?;
+    Ok(Items::from_vec(few))
+}
+
 /// Reads the body of a block up to its end. It calls itself once for each of the levels, of which there are at most 16.
+///
+/// The parts are gathered in a vector that is empty before and after, whose room serves one block after the other.
 ///
 /// # Errors
 /// The fault of the first piece that has one, or `Memory` where memory is refused.
-fn read_body(alloc: Global, bytes: &[u8], scope: Scope, at: usize) -> Result<Body, StreamFault>
+fn read_body(
+    alloc: Global,
+    bytes: &[u8],
+    scope: Scope,
+    parts: &mut Vec<Part>,
+    at: usize,
+) -> Result<Body, StreamFault>
+    requires empty { parts.old.items ≡ [] }
     requires short { length bytes.now < 2 ^ 32 }
     requires inside { 0 < scope.levels }
     requires levels { scope.levels ≤ most_levels }
     requires limit { scope.width ≤ 64 }
     requires within { at ≤ 8 * length bytes.now }
-    ensures { MatchResult result (BodyAt bytes.now scope at) (FaultFrom bytes.now scope at) }
+    ensures body { MatchResult result (BodyAt bytes.now scope at) (FaultFrom bytes.now scope at) }
+    ensures left { OnOk result (parts.new.items ≡ []) }
 {
-    let mut parts = Vec::new(alloc);
+    let mut inner_parts = Vec::new(alloc);
     let mut to = at;
     loop {
         if let Some(few) = read_few(bytes, scope, to) {
             let values = Values::in_place(few.count as u32, few.places);
             let code = few.code;
-            push_part(&mut parts, Part::Entry(Entry { code, values }))?;
+            push_part(parts, Part::Entry(Entry { code, values }))?;
             to = few.to;
             continue;
         }
         match next_piece(alloc, bytes, scope, to)? {
             Piece::Leave { to } => {
-                let parts = Items::from_vec(parts);
+                let parts = take_parts(alloc, parts)?;
                 return Ok(Body { parts, to });
             }
             Piece::Record {
@@ -107,7 +137,7 @@ fn read_body(alloc: Global, bytes: &[u8], scope: Scope, at: usize) -> Result<Bod
                 values,
                 to: behind,
             } => {
-                push_part(&mut parts, Part::Entry(Entry { code, values }))?;
+                push_part(parts, Part::Entry(Entry { code, values }))?;
                 to = behind;
             }
             Piece::Enter {
@@ -115,9 +145,9 @@ fn read_body(alloc: Global, bytes: &[u8], scope: Scope, at: usize) -> Result<Bod
                 inner,
                 to: behind,
             } => {
-                let body = read_body(alloc, bytes, inner, behind)?;
+                let body = read_body(alloc, bytes, inner, &mut inner_parts, behind)?;
                 push_part(
-                    &mut parts,
+                    parts,
                     Part::Block(BlockTree {
                         id,
                         parts: body.parts,
@@ -147,7 +177,8 @@ fn read_outermost(
     let Piece::Enter { id, inner, to } = next_piece(alloc, bytes, OUTSIDE, at)? else {
         return Err(fault(OUTSIDE_BLOCKS, at));
     };
-    let body = read_body(alloc, bytes, inner, to)?;
+    let mut parts = Vec::new(alloc);
+    let body = read_body(alloc, bytes, inner, &mut parts, to)?;
     push_outermost(blocks, id, body.parts)?;
     Ok(body.to)
 }

@@ -8,7 +8,7 @@ use std::alloc::Global;
 use std::marker::Model;
 
 /// The greatest number of values that take no memory of their own.
-pub(crate) const MOST_IN_PLACE: usize = 5;
+pub(crate) const MOST_IN_PLACE: usize = 4;
 
 /// How values are held.
 #[derive(Debug, Drop)]
@@ -23,7 +23,7 @@ enum Held {
 
 /// The values of a record, in order, which contracts see as their list.
 ///
-/// Up to five values take no memory of their own.
+/// Up to four values take no memory of their own.
 #[derive(Debug, Drop)]
 pub struct Values {
     held: Held,
@@ -47,7 +47,7 @@ impl Model for Values {
 impl Values {
     /// The first `count` of some places.
     pub(crate) fn in_place(count: u32, places: [u64; MOST_IN_PLACE]) -> Values
-        requires { count ≤ 5 }
+        requires { count ≤ 4 }
         ensures { result ≡ take count places }
     {
         Values {

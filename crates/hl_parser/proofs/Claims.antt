@@ -1,14 +1,14 @@
 -- What it means that the machine reads the tokens of a tree.
-use Rattle.std.proofs.Common.{◌≡◌, ◌∙◌, refl, sym, ap, subst, ℕ, suc, ◌<◌, ◌≤◌, Bool, true, false, cond, if◌then◌else◌, nat_le, nat_lt, not, ◌&&◌, ◌||◌, ◌⊎◌, Option, None, Some, List, [], ◌∷◌, ◌++◌, arith}
+use Rattle.std.proofs.Common.{◌≡◌, ℕ, suc, ◌<◌, ◌≤◌, Bool, true, false, if◌then◌else◌, nat_le, nat_lt, not, ◌||◌, Option, List, [], ◌∷◌, ◌++◌}
 use Rattle.hl_lexer.specs.declared.terminal.Terminal.{Terminal}
 use Rattle.hl_lexer.specs.declared.terminal.Terminal.TheVariants as terminals
 use Rattle.hl_parser.specs.declared.act.Act.TheVariants as acts
 use Rattle.hl_parser.specs.declared.symbol.Symbol.{Symbol}
 use Rattle.hl_parser.specs.declared.symbol.Symbol.TheVariants as symbols
 use Rattle.hl_parser.specs.Codes.{is}
-use Rattle.hl_parser.specs.Grammar.{Each, Commas, Lengths, Mark, NoElse, Nothing, Numbered, Spells, Step, nth, n_attribute, n_expr, n_item, n_member, n_stmt, n_local, n_init, peek, ◌or◌, ◌then◌}
-use Rattle.hl_parser.specs.Machine.{Kept, Value, append_tree, begins_item, behind_kind, kept, level_of, rest_of_attribute, start, v_token, v_tree, v_trees, yields}
-use Rattle.hl_parser.specs.Trees.{Tree, a_program, an_item, a_struct, a_member, a_type, a_basic, a_declarator, a_buffer, a_kind, a_shared, a_constant, an_init, a_function, a_result, a_param, a_direction, an_attribute, a_block, a_stmt, a_local, a_start, an_if, a_for, a_while, a_do, a_jump, an_expr, a_choice, a_binary, a_unary, a_postfix, a_primary, an_args, Trees, no_trees, more_trees, Maybe, absent, present}
+use Rattle.hl_parser.specs.Grammar.{Mark, NoElse, Nothing, Numbered, Spells, Step, nth, n_expr, n_stmt, n_local, n_init, peek, ◌or◌, ◌then◌}
+use Rattle.hl_parser.specs.Machine.{Kept, Value, append_tree, begins_item, behind_kind, kept, level_of, rest_of_attribute, start, token_value, tree_value, trees_value, yields}
+use Rattle.hl_parser.specs.Trees.{Tree, a_program, an_item, a_struct, a_member, a_type, a_declarator, a_buffer, a_kind, a_shared, a_constant, an_init, a_function, a_result, a_param, an_attribute, a_block, a_stmt, a_local, a_start, an_if, a_for, a_while, a_do, a_jump, an_expr, a_choice, a_binary, a_unary, a_postfix, a_primary, an_args, Trees, no_trees, more_trees, Maybe, absent, present}
 use Rattle.hl_parser.proofs.Runs.{Runs, move_at}
 use Rattle.hl_parser.proofs.Shapes.{number_of}
 
@@ -33,18 +33,18 @@ pub record Quiet (level : ℕ) (to : List Numbered) : Type 0 where
 -- a symbol reads the tree
 abbrev pub Takes : Symbol → Tree → Step
 Takes s tree from to =
-    (K : List Symbol) (vs : List Value) (w : Option Kept) → Runs K (kept (v_tree tree ∷ vs)) to w → Runs (s ∷ K) (kept vs) from w
+    (K : List Symbol) (vs : List Value) (w : Option Kept) → Runs K (kept (tree_value tree ∷ vs)) to w → Runs (s ∷ K) (kept vs) from w
 
 -- a symbol reads the tree where the token behind it passes a test, and other symbols stand behind it
 abbrev pub TakesBefore : (Terminal → Bool) → Symbol → List Symbol → Tree → Step
 TakesBefore test s more tree from to =
     (K : List Symbol) (vs : List Value) (w : Option Kept) → test (peek to) ≡ true
-    → Runs (more ++ K) (kept (v_tree tree ∷ vs)) to w → Runs (s ∷ K) (kept vs) from w
+    → Runs (more ++ K) (kept (tree_value tree ∷ vs)) to w → Runs (s ∷ K) (kept vs) from w
 
 abbrev pub TakesExpression : Tree → Step
 TakesExpression tree from to =
     (k : ℕ) (K : List Symbol) (vs : List Value) (w : Option Kept) → k ≤ number_of tree → Quiet (edge_of (number_of tree)) to
-    → Runs (symbols.Tail (number_of tree) k ∷ K) (kept (v_tree tree ∷ vs)) to w → Runs (symbols.Operand k ∷ K) (kept vs) from w
+    → Runs (symbols.Tail (number_of tree) k ∷ K) (kept (tree_value tree ∷ vs)) to w → Runs (symbols.Operand k ∷ K) (kept vs) from w
 
 -- the tokens behind a declarator, a start and a parameter
 abbrev pub ends_declarator : Terminal → Bool
@@ -67,13 +67,13 @@ pub record TakesAttribute (at : ℕ) (tree : Tree) (from to : List Numbered) : T
   pub middle : List Numbered
   pub bracket : from ≡ nth at terminals.OpenBracket ∷ middle
   pub reads : (K : List Symbol) (vs : List Value) (done : Trees) (w : Option Kept)
-      → Runs (symbols.Attributes ∷ K) (kept (v_trees (append_tree done tree) ∷ vs)) to w
-      → Runs (rest_of_attribute ++ K) (kept (v_token at ∷ v_trees done ∷ vs)) middle w
+      → Runs (symbols.Attributes ∷ K) (kept (trees_value (append_tree done tree) ∷ vs)) to w
+      → Runs (rest_of_attribute ++ K) (kept (token_value at ∷ trees_value done ∷ vs)) middle w
 
 -- the machine reads a program from its start on
 abbrev pub TakesProgram : Tree → Step
 TakesProgram tree from to =
-    (w : Option Kept) → begins_item (peek to) ≡ false → Runs [] (kept (v_tree tree ∷ [])) to w → Runs start (kept []) from w
+    (w : Option Kept) → begins_item (peek to) ≡ false → Runs [] (kept (tree_value tree ∷ [])) to w → Runs start (kept []) from w
 
 abbrev pub Trivial : Step
 Trivial from to = Unit {0}
@@ -148,7 +148,7 @@ append_trees done (more_trees first rest) = append_trees (append_tree done first
 abbrev pub Loops : Symbol → Trees → Step
 Loops s trees from to =
     (K : List Symbol) (vs : List Value) (done : Trees) (w : Option Kept) → move_at s to ≡ yields []
-    → Runs K (kept (v_trees (append_trees done trees) ∷ vs)) to w → Runs (s ∷ K) (kept (v_trees done ∷ vs)) from w
+    → Runs K (kept (trees_value (append_trees done trees) ∷ vs)) to w → Runs (s ∷ K) (kept (trees_value done ∷ vs)) from w
 
 abbrev pub PerhapsListedClaimed : ℕ → Trees → Step
 PerhapsListedClaimed asked no_trees = Nothing

@@ -1,10 +1,10 @@
 -- The machine reads the tokens of every tree, and answers that tree.
-use Rattle.std.proofs.Common.{◌≡◌, ◌∙◌, refl, sym, ap, subst, arith, ℕ, suc, inl, inr, Option, None, Some, List, [], ◌∷◌, length}
+use Rattle.std.proofs.Common.{◌≡◌, ◌∙◌, refl, sym, ap, subst, arith, ℕ, suc, inl, inr, None, Some, List, [], ◌∷◌}
 use Rattle.hl_lexer.specs.declared.terminal.Terminal.{Terminal}
 use Rattle.hl_lexer.specs.declared.terminal.Terminal.TheVariants as terminals
 use Rattle.hl_parser.specs.declared.symbol.Symbol.TheVariants as symbols
 use Rattle.hl_parser.specs.Grammar.{Commas, Each, ElseIs, FirstIs, InitIs, Lengths, Mark, Numbered, Perhaps, PerhapsListed, Spells, SpellsProgram, Token, n_args, n_attribute, n_basic, n_block, n_choice, n_declarator, n_expr, n_init, n_item, n_kind, n_local, n_member, n_or, n_param, n_postfix, n_program, n_result, n_start, n_stmt, n_struct, n_buffer, n_shared, n_constant, n_function, n_if, n_for, n_while, n_do, n_jump, n_type, n_unary, numbered}
-use Rattle.hl_parser.specs.Machine.{Kept, kept, run, start, v_tree}
+use Rattle.hl_parser.specs.Machine.{kept, run, start, tree_value}
 use Rattle.hl_parser.specs.Trees.{Tree, a_program, an_item, a_struct, a_member, a_type, a_basic, a_declarator, a_buffer, a_kind, a_shared, a_constant, an_init, a_function, a_result, a_param, a_direction, an_attribute, a_block, a_stmt, a_local, a_start, an_if, a_for, a_while, a_do, a_jump, an_expr, a_choice, a_binary, a_unary, a_postfix, a_primary, an_args, Trees, no_trees, more_trees, Maybe, absent, present, at_of}
 use Rattle.hl_parser.proofs.Claims.{Claim, Claimed, CommasClaimed, EachClaimed, ElseClaimed, FirstClaimed, InitClaimed, LengthsClaimed, PerhapsClaimed, PerhapsListedClaimed, Takes, TakesExpression, TakesProgram}
 use Rattle.hl_parser.proofs.Opening.{args_open, basic_token}
@@ -12,7 +12,6 @@ use Rattle.hl_parser.proofs.ReadDeclarations.{args_read, basic_type_read, braces
 use Rattle.hl_parser.proofs.ReadExpressions.{assignment_reads, binary_reads, call_reads, cast_reads, choice_reads, constructor_reads, field_reads, index_reads, method_reads, parentheses_reads, step_reads, unary_reads, word_reads}
 use Rattle.hl_parser.proofs.ReadFunctions.{attribute_read, function_read, item_read, param_read, plain_attribute_read, program_read, type_result_read, void_result_read}
 use Rattle.hl_parser.proofs.ReadStatements.{block_read, block_statement_read, control_statement_read, do_read, empty_statement_read, expression_statement_read, for_read, if_read, jump_read, jump_statement_read, local_read, local_statement_read, start_read, statements_loop, value_jump_read, while_read}
-use Rattle.hl_parser.proofs.Runs.{Runs}
 use Rattle.hl_parser.proofs.Shapes.{number_is}
 use Rattle.hl_parser.proofs.StandsAs.{as_args, as_buffer, as_constant, as_do, as_for, as_function, as_if, as_shared, as_struct, as_while}
 
@@ -221,15 +220,15 @@ takes_program : (tree : Tree) (from to : List Numbered) → Spells n_program tre
 takes_program (a_program at items) from to h c = c
 takes_program tree from to h c = let n = number_is tree n_program from to h in absurd (omega arith)
 
-pub complete : (tokens : List Terminal) (tree : Tree) → SpellsProgram tokens tree → run start (kept []) (numbered 0 tokens) ≡ Some (kept (v_tree tree ∷ []))
+pub complete : (tokens : List Terminal) (tree : Tree) → SpellsProgram tokens tree → run start (kept []) (numbered 0 tokens) ≡ Some (kept (tree_value tree ∷ []))
 unfolding run
 complete tokens tree h =
-    (takes_program tree (numbered 0 tokens) [] h (reading tree n_program (numbered 0 tokens) [] h) (Some (kept (v_tree tree ∷ []))) refl (record { is_run = refl })).is_run
+    (takes_program tree (numbered 0 tokens) [] h (reading tree n_program (numbered 0 tokens) [] h) (Some (kept (tree_value tree ∷ []))) refl (record { is_run = refl })).is_run
 
 -- tokens spell at most one tree
 pub at_most_one_tree : (tokens : List Terminal) (tree other : Tree) → SpellsProgram tokens tree → SpellsProgram tokens other → tree ≡ other
 at_most_one_tree tokens tree other h g =
     let one = complete tokens tree h in
     let two = complete tokens other g in
-    let same : Some (kept (v_tree tree ∷ [])) ≡ Some (kept (v_tree other ∷ [])) = sym one ∙ two in
+    let same : Some (kept (tree_value tree ∷ [])) ≡ Some (kept (tree_value other ∷ [])) = sym one ∙ two in
     cc

@@ -1,15 +1,14 @@
 -- Every stack of symbols has a word that completes it, so what is read so far begins a program.
-use Rattle.std.proofs.Common.{◌≡◌, ◌≢◌, ◌∙◌, refl, sym, ap, subst, ℕ, zero, suc, ◌+◌, ◌<◌, ◌≤◌, Bool, true, false, inl, inr, Option, None, Some, List, [], ◌∷◌, ◌++◌, length, take, drop, arith, append_assoc}
+use Rattle.std.proofs.Common.{◌≡◌, ◌∙◌, refl, sym, ap, subst, ℕ, suc, ◌+◌, ◌≤◌, inl, inr, None, List, [], ◌∷◌, ◌++◌, length, arith}
 use Rattle.hl_lexer.specs.declared.terminal.Terminal.{Terminal}
 use Rattle.hl_lexer.specs.declared.terminal.Terminal.TheVariants as terminals
-use Rattle.hl_parser.specs.declared.act.Act.{Act}
 use Rattle.hl_parser.specs.declared.symbol.Symbol.{Symbol}
 use Rattle.hl_parser.specs.declared.symbol.Symbol.TheVariants as symbols
-use Rattle.hl_parser.specs.Grammar.{Mark, Numbered, Spells, n_block, n_buffer, n_declarator, n_do, n_expr, n_item, n_param, n_primary, n_start, n_stmt, n_type, n_unary, nth, numbered, peek}
-use Rattle.hl_parser.specs.Trees.{Tree, a_basic, a_block, a_buffer, a_declarator, a_do, a_kind, a_local, a_member, a_param, a_primary, a_result, a_start, a_stmt, a_type, an_args, an_init, an_item, Trees, no_trees, more_trees, Maybe, absent, present, at_of}
+use Rattle.hl_parser.specs.Grammar.{Numbered, Spells, n_declarator, n_expr, n_start, n_stmt, n_type, n_unary, nth, numbered}
+use Rattle.hl_parser.specs.Trees.{a_basic, a_block, a_buffer, a_declarator, a_do, a_kind, a_local, a_member, a_param, a_primary, a_result, a_start, a_stmt, a_type, an_args, an_init, an_item, no_trees, more_trees, absent, present}
 use Rattle.hl_parser.specs.Grammar.{first_among}
 use Rattle.hl_parser.proofs.Soundness.{less, stands_for}
-use Rattle.hl_parser.proofs.Words.{BracesEnd, Spelled, Word, Words, words_cons}
+use Rattle.hl_parser.proofs.Words.{Word, Words, words_cons}
 
 -- tokens with their indices from an index on, in front of others
 abbrev pub in_front : ℕ → List Terminal → List Numbered → List Numbered

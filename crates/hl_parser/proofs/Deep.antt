@@ -1,11 +1,10 @@
 -- No act makes what is kept shallower.
-use Rattle.std.proofs.Common.{◌≡◌, ℕ, suc, ◌<◌, ◌≤◌, max, Bool, true, false, if◌then◌else◌, Option, None, Some, List, [], ◌∷◌, arith}
+use Rattle.std.proofs.Common.{◌≡◌, ℕ, ◌<◌, ◌≤◌, max, Bool, true, false, if◌then◌else◌, Option, None, Some, List, [], ◌∷◌, arith}
 use Rattle.hl_parser.specs.declared.act.Act.{Act}
 use Rattle.hl_parser.specs.declared.act.Act.TheVariants as acts
 use Rattle.hl_parser.specs.Held.{IsLost, deepest}
-use Rattle.hl_parser.specs.Machine.{Kept, Value, act_on, append_tree, gone, is_level, kept, make_binary, perform, put, take_maybe, take_option, take_token, take_tree, take_trees, v_none, v_token, v_tree, v_trees}
+use Rattle.hl_parser.specs.Machine.{Kept, Value, act_on, append_tree, gone, is_level, kept, make_binary, perform, take_maybe, take_option, take_token, take_tree, take_trees, no_value, token_value, tree_value, trees_value}
 use Rattle.hl_parser.specs.Trees.{Maybe, Tree, Trees, absent, depth, depth_if, depths, more_trees, no_trees, present}
-use Rattle.std.proofs.Math.Nat.{max-le, le-max_left, le-max_right}
 
 -- none are kept, or one is at least this deep
 abbrev pub Deeper : ℕ → Kept → Type 0
@@ -20,38 +19,38 @@ nothing_deep = record { deep = tt }
 
 token_deep : {n : ℕ} (d : ℕ) (vs : List Value) (go : ℕ → List Value → Kept) → n ≤ max d (deepest vs) → ((i : ℕ) (rest : List Value) → n ≤ max d (deepest rest) → IsDeep n (go i rest)) → IsDeep n (take_token vs go)
 token_deep d [] go h k = nothing_deep
-token_deep d (v_token i ∷ rest) go h k = k i rest (omega arith)
-token_deep d (v_tree t ∷ rest) go h k = nothing_deep
-token_deep d (v_trees ts ∷ rest) go h k = nothing_deep
-token_deep d (v_none ∷ rest) go h k = nothing_deep
+token_deep d (token_value i ∷ rest) go h k = k i rest (omega arith)
+token_deep d (tree_value t ∷ rest) go h k = nothing_deep
+token_deep d (trees_value ts ∷ rest) go h k = nothing_deep
+token_deep d (no_value ∷ rest) go h k = nothing_deep
 
 tree_deep : {n : ℕ} (d : ℕ) (vs : List Value) (go : Tree → List Value → Kept) → n ≤ max d (deepest vs) → ((t : Tree) (rest : List Value) → n ≤ max (max d (depth t)) (deepest rest) → IsDeep n (go t rest)) → IsDeep n (take_tree vs go)
 tree_deep d [] go h k = nothing_deep
-tree_deep d (v_token i ∷ rest) go h k = nothing_deep
-tree_deep d (v_tree t ∷ rest) go h k = k t rest (omega arith)
-tree_deep d (v_trees ts ∷ rest) go h k = nothing_deep
-tree_deep d (v_none ∷ rest) go h k = nothing_deep
+tree_deep d (token_value i ∷ rest) go h k = nothing_deep
+tree_deep d (tree_value t ∷ rest) go h k = k t rest (omega arith)
+tree_deep d (trees_value ts ∷ rest) go h k = nothing_deep
+tree_deep d (no_value ∷ rest) go h k = nothing_deep
 
 trees_deep : {n : ℕ} (d : ℕ) (vs : List Value) (go : Trees → List Value → Kept) → n ≤ max d (deepest vs) → ((ts : Trees) (rest : List Value) → n ≤ max (max d (depths ts)) (deepest rest) → IsDeep n (go ts rest)) → IsDeep n (take_trees vs go)
 trees_deep d [] go h k = nothing_deep
-trees_deep d (v_token i ∷ rest) go h k = nothing_deep
-trees_deep d (v_tree t ∷ rest) go h k = nothing_deep
-trees_deep d (v_trees ts ∷ rest) go h k = k ts rest (omega arith)
-trees_deep d (v_none ∷ rest) go h k = nothing_deep
+trees_deep d (token_value i ∷ rest) go h k = nothing_deep
+trees_deep d (tree_value t ∷ rest) go h k = nothing_deep
+trees_deep d (trees_value ts ∷ rest) go h k = k ts rest (omega arith)
+trees_deep d (no_value ∷ rest) go h k = nothing_deep
 
 maybe_deep : {n : ℕ} (d : ℕ) (vs : List Value) (go : Maybe → List Value → Kept) → n ≤ max d (deepest vs) → ((m : Maybe) (rest : List Value) → n ≤ max (max d (depth_if m)) (deepest rest) → IsDeep n (go m rest)) → IsDeep n (take_maybe vs go)
 maybe_deep d [] go h k = nothing_deep
-maybe_deep d (v_token i ∷ rest) go h k = nothing_deep
-maybe_deep d (v_tree t ∷ rest) go h k = k (present t) rest (omega arith)
-maybe_deep d (v_trees ts ∷ rest) go h k = nothing_deep
-maybe_deep d (v_none ∷ rest) go h k = k absent rest (omega arith)
+maybe_deep d (token_value i ∷ rest) go h k = nothing_deep
+maybe_deep d (tree_value t ∷ rest) go h k = k (present t) rest (omega arith)
+maybe_deep d (trees_value ts ∷ rest) go h k = nothing_deep
+maybe_deep d (no_value ∷ rest) go h k = k absent rest (omega arith)
 
 option_deep : {n : ℕ} (d : ℕ) (vs : List Value) (go : Option ℕ → List Value → Kept) → n ≤ max d (deepest vs) → ((o : Option ℕ) (rest : List Value) → n ≤ max d (deepest rest) → IsDeep n (go o rest)) → IsDeep n (take_option vs go)
 option_deep d [] go h k = nothing_deep
-option_deep d (v_token i ∷ rest) go h k = k (Some i) rest (omega arith)
-option_deep d (v_tree t ∷ rest) go h k = nothing_deep
-option_deep d (v_trees ts ∷ rest) go h k = nothing_deep
-option_deep d (v_none ∷ rest) go h k = k None rest (omega arith)
+option_deep d (token_value i ∷ rest) go h k = k (Some i) rest (omega arith)
+option_deep d (tree_value t ∷ rest) go h k = nothing_deep
+option_deep d (trees_value ts ∷ rest) go h k = nothing_deep
+option_deep d (no_value ∷ rest) go h k = k None rest (omega arith)
 
 pub depths-append : (ts : Trees) (t : Tree) → depths (append_tree ts t) ≡ max (depths ts) (depth t)
 depths-append no_trees t = omega arith

@@ -1,5 +1,5 @@
 -- A token that is fed to the parser, as to the machine.
-use Rattle.std.proofs.Common.{◌≡◌, ◌∙◌, refl, sym, ap, subst, ℕ, List, [], ◌∷◌, ◌++◌, Result, Ok, Err, IfOk}
+use Rattle.std.proofs.Common.{◌≡◌, ◌∙◌, sym, ap, subst, ℕ, List, [], ◌∷◌, Result, IfOk}
 use Rattle.base_core.specs.declared.sequence.NoMemory.{NoMemory}
 use Rattle.hl_lexer.specs.declared.terminal.Terminal.{Terminal}
 use Rattle.hl_parser.specs.declared.parser.Outcome.{Outcome}
@@ -10,7 +10,7 @@ use Rattle.hl_parser.specs.declared.symbol.Symbol.{Symbol}
 use Rattle.hl_parser.specs.declared.symbol.Symbol.TheVariants as symbols
 use Rattle.hl_parser.specs.declared.values.Values.{Values}
 use Rattle.hl_parser.proofs.Terminals.{only_itself}
-use Rattle.hl_parser.specs.Held.{Did, FedIs, Holds, Performed}
+use Rattle.hl_parser.specs.Held.{Did, FedIs, Holds}
 use Rattle.hl_parser.specs.Machine.{Fed, Kept, Move, after_move, feed, move_of, only, perform_all, reads, refuses, yields}
 
 pub skip_did : (t u next : Terminal) (at : ℕ) (before after : Parser) (r : Result Outcome NoMemory) → t ≡ u → IfOk r (λ o. Did (reads [] []) at before after o) → IfOk r (λ o. Did (move_of (symbols.Skip u) t next) at before after o)

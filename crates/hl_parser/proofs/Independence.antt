@@ -1,19 +1,18 @@
 -- Whether a token is read, yielded at or refused hangs on what stands before it and on itself alone.
-use Rattle.std.proofs.Common.{◌≡◌, ◌∙◌, refl, sym, ap, subst, ℕ, Bool, true, false, cond, if◌then◌else◌, eqb, not, ◌&&◌, ◌||◌, ⊎_elim, List, [], ◌∷◌, ◌++◌}
-use Rattle.std.proofs.lemmas.Bool.{eqb-true, or_cases}
+use Rattle.std.proofs.Common.{◌≡◌, ◌∙◌, refl, sym, ap, ℕ, Bool, true, false, if◌then◌else◌, eqb, not, ◌&&◌, ◌||◌, List, [], ◌∷◌}
+use Rattle.std.proofs.lemmas.Bool.{eqb-true}
 use Rattle.hl_lexer.specs.declared.terminal.Terminal.{Terminal}
 use Rattle.hl_lexer.specs.declared.terminal.Terminal.TheVariants as terminals
-use Rattle.hl_parser.specs.declared.act.Act.{Act}
 use Rattle.hl_parser.specs.declared.act.Act.TheVariants as acts
 use Rattle.hl_parser.specs.declared.symbol.Symbol.{Symbol}
 use Rattle.hl_parser.specs.declared.symbol.Symbol.TheVariants as symbols
 use Rattle.hl_parser.specs.Codes.{is}
 use Rattle.hl_parser.specs.Grammar.{is_basic}
-use Rattle.hl_parser.specs.Machine.{Fed, Kept, Move, after_move, begins_expression, begins_init, begins_local, begins_statement, begins_type, fed, feed, followed, led, move_of, on_arg_list, on_first, on_init, on_inits, on_local, on_operand, on_optional, on_parenthesis, on_statement, on_statements, only, other_operand, other_statement, perform_all, reads, refused, refuses, spent, yields}
-use Rattle.hl_parser.proofs.Moves.{if_false, if_true}
+use Rattle.hl_parser.specs.Machine.{Fed, Kept, Move, after_move, begins_expression, begins_init, begins_local, begins_statement, begins_type, fed, feed, followed, move_of, on_first, on_local, on_operand, on_parenthesis, on_statement, other_operand, other_statement, perform_all, reads, refused, refuses, spent, yields}
+use Rattle.hl_parser.proofs.Moves.{if_true}
 use Rattle.hl_parser.proofs.ReadStatements.{local_never}
 use Rattle.hl_parser.proofs.Runs.{NeverYields}
-use Rattle.hl_parser.proofs.Terminals.{by_every, every, implied, implies, not_true, same_is}
+use Rattle.hl_parser.proofs.Terminals.{by_every, every, implied, implies, same_is}
 
 abbrev pub kind_of : Move → ℕ
 kind_of (reads done more) = 0

@@ -1,5 +1,5 @@
 -- The moves of symbols at tokens of a class.
-use Rattle.std.proofs.Common.{◌≡◌, ◌∙◌, refl, sym, ap, ap₂, subst, ℕ, suc, ◌-◌, ◌<◌, ◌≤◌, Bool, true, false, cond, if◌then◌else◌, eqb, nat_le, nat_lt, not, ◌&&◌, ◌||◌, Option, None, Some, List, [], ◌∷◌, ◌++◌, arith}
+use Rattle.std.proofs.Common.{◌≡◌, ◌∙◌, refl, ap, ap₂, ℕ, suc, ◌<◌, ◌≤◌, Bool, true, false, if◌then◌else◌, eqb, nat_le, nat_lt, not, ◌&&◌, List, [], ◌∷◌, arith}
 use Rattle.std.proofs.lemmas.Bool.{eqb-true, le-leb, le-ltb, leb-true, lt-leb, lt-ltb, ltb-false, ltb-true}
 use Rattle.hl_lexer.specs.declared.terminal.Terminal.{Terminal}
 use Rattle.hl_lexer.specs.declared.terminal.Terminal.TheVariants as terminals
@@ -8,11 +8,11 @@ use Rattle.hl_parser.specs.declared.act.Act.TheVariants as acts
 use Rattle.hl_parser.specs.declared.symbol.Symbol.{Symbol}
 use Rattle.hl_parser.specs.declared.symbol.Symbol.TheVariants as symbols
 use Rattle.hl_parser.specs.Codes.{all_terminals, is}
-use Rattle.hl_parser.specs.Grammar.{Numbered, is_assign, is_basic, is_prefix, is_step, is_word, nth, operator_of, peek}
-use Rattle.hl_parser.specs.Machine.{Move, begins_expression, begins_local, begins_type, followed, is_repeating, joins_to, led, level_of, move_of, on_local, on_operand, on_operator, on_result, on_type, only, reads, refuses, yields}
+use Rattle.hl_parser.specs.Grammar.{Numbered, is_assign, is_basic, is_prefix, is_step, is_word, operator_of, peek}
+use Rattle.hl_parser.specs.Machine.{Move, followed, is_repeating, joins_to, led, level_of, move_of, on_operand, on_operator, on_type, only, reads, refuses, yields}
 use Rattle.hl_parser.proofs.Claims.{Quiet, closes, edge_of}
 use Rattle.hl_parser.proofs.Runs.{NeverYields}
-use Rattle.hl_parser.proofs.Terminals.{all_pass, by_every, every, implies, implied, not_true}
+use Rattle.hl_parser.proofs.Terminals.{all_pass, by_every, implies, not_true}
 
 -- moves that never yield
 

@@ -1,15 +1,15 @@
 -- What the first tokens of trees are.
-use Rattle.std.proofs.Common.{◌≡◌, ◌∙◌, refl, sym, ap, subst, ℕ, ◌≤◌, Bool, true, false, cond, if◌then◌else◌, nat_le, not, ⊎_elim, ◌⊎◌, inl, inr, ◌&&◌, ◌||◌, Option, None, Some, List, [], ◌∷◌, arith}
+use Rattle.std.proofs.Common.{◌≡◌, ◌∙◌, refl, ap, ℕ, ◌≤◌, Bool, true, false, cond, if◌then◌else◌, nat_le, not, ⊎_elim, ◌&&◌, ◌||◌, None, Some, List, arith}
 use Rattle.hl_lexer.specs.declared.terminal.Terminal.{Terminal}
 use Rattle.hl_lexer.specs.declared.terminal.Terminal.TheVariants as terminals
 use Rattle.hl_parser.specs.Codes.{all_terminals, is}
-use Rattle.hl_parser.specs.Grammar.{Numbered, Mark, Operator, Spells, Token, Word, is_assign, is_basic, is_prefix, is_step, is_word, last_for, n_args, n_basic, n_choice, n_expr, n_or, n_postfix, n_primary, n_product, n_type, nth, operator_of, peek}
-use Rattle.hl_parser.specs.Machine.{begins_expression, begins_local, begins_type, is_repeating}
-use Rattle.hl_parser.specs.Trees.{Tree, a_program, an_item, a_struct, a_member, a_type, a_basic, a_declarator, a_buffer, a_kind, a_shared, a_constant, an_init, a_function, a_result, a_param, a_direction, an_attribute, a_block, a_stmt, a_local, a_start, an_if, a_for, a_while, a_do, a_jump, an_expr, a_choice, a_binary, a_unary, a_postfix, a_primary, an_args, Trees, no_trees, more_trees, Maybe, absent, present}
+use Rattle.hl_parser.specs.Grammar.{Numbered, Mark, Operator, Spells, Token, Word, is_assign, is_basic, is_prefix, is_step, is_word, last_for, n_args, n_basic, n_choice, n_expr, n_or, n_postfix, n_primary, operator_of, peek}
+use Rattle.hl_parser.specs.Machine.{begins_expression, begins_local, is_repeating}
+use Rattle.hl_parser.specs.Trees.{Tree, a_basic, an_expr, a_choice, a_binary, a_unary, a_postfix, a_primary, an_args, absent, present}
 use Rattle.std.proofs.lemmas.Bool.{le-leb, le-ltb, leb-true, or_cases}
-use Rattle.hl_parser.proofs.Runs.{index_of, rest_of}
-use Rattle.hl_parser.proofs.Shapes.{IsNumber, number_is, number_of}
-use Rattle.hl_parser.proofs.Terminals.{all_pass, by_every, every, implies, implied, not_true}
+use Rattle.hl_parser.proofs.Runs.{rest_of}
+use Rattle.hl_parser.proofs.Shapes.{number_is, number_of}
+use Rattle.hl_parser.proofs.Terminals.{all_pass, by_every, implies, not_true}
 
 -- an expression may stand for every earlier production of expressions
 pub last_of_expression : (asked : ℕ) → n_expr ≤ asked → asked ≤ n_primary → last_for asked ≡ 42

@@ -1,7 +1,8 @@
 -- Tokens are read to their end, and what is answered is the only right answer.
-use Rattle.std.proofs.Common.{◌≡◌, ◌≢◌, ◌∙◌, refl, sym, ap, subst, ℕ, zero, suc, ◌+◌, ◌<◌, ◌≤◌, inl, inr, Option, None, Some, List, [], ◌∷◌, ◌++◌, length, map, take, drop, get_or, Result, Ok, Err, IfOk, IfErr, arith, append_assoc, Bool, true, false, nat_lt, ◌⊎◌}
+use Rattle.std.proofs.Common.{◌≡◌, ◌≢◌, ◌∙◌, refl, sym, ap, subst, ℕ, zero, suc, ◌+◌, ◌<◌, ◌≤◌, inl, inr, Option, None, Some, List, [], ◌∷◌, ◌++◌, length, take, drop, get_or, Result, Ok, Err, IfOk, IfErr, arith, append_assoc, Bool, true, false, nat_lt, ◌⊎◌}
 use Rattle.std.proofs.lemmas.Bool.{ltb-false, ltb-true}
 use Rattle.std.proofs.lemmas.List.{take-append-drop}
+use Rattle.std.specs.Option.{ok_or}
 use Rattle.hl_lexer.specs.declared.terminal.Terminal.{Terminal}
 use Rattle.hl_lexer.specs.declared.terminal.Terminal.TheVariants.{Unlisted}
 use Rattle.hl_lexer.specs.declared.token.Token.{Token}
@@ -14,7 +15,7 @@ use Rattle.hl_parser.specs.declared.step.Fed.TheVariants.{Read, Spent, Refused}
 use Rattle.hl_parser.specs.declared.tree.Tree.{Tree}
 use Rattle.hl_parser.specs.Grammar.{BeginsProgram, IsSyntaxFault, SpellsProgram}
 use Rattle.hl_parser.specs.Held.{FedIs, Finishes, Holds}
-use Rattle.hl_parser.specs.Machine.{Kept, feed, kept, start, v_tree}
+use Rattle.hl_parser.specs.Machine.{Kept, feed, kept, start, tree_value}
 use Rattle.hl_parser.specs.Machine as machine
 use Rattle.hl_parser.specs.Parsing.{GivesFault, GivesTree, IsAnswer, IsFault, SpellsTooDeep, first_terminal, most_depth, terminals_of}
 use Rattle.hl_parser.specs.Trees.{depth}
@@ -22,7 +23,7 @@ use Rattle.hl_parser.specs.Trees as plain
 use Rattle.hl_parser.specs.Views.{plain_of}
 use Rattle.hl_parser.proofs.Complete.{at_most_one_tree}
 use Rattle.hl_parser.proofs.Independence.{outcome_of}
-use Rattle.hl_parser.proofs.Progress.{HasRead, IsTree, fault_at_end, fault_at_token, has_read_nothing, next_of, reads_more, tree_at_end}
+use Rattle.hl_parser.proofs.Progress.{HasRead, fault_at_end, fault_at_token, has_read_nothing, next_of, reads_more, tree_at_end}
 
 pub first_at : (tokens : List Token) (at : ℕ) (d : Token) → at < length tokens → terminal_of (get_or tokens at d).kind ≡ first_terminal (drop at (terminals_of tokens))
 first_at [] at d h = absurd (omega arith)
@@ -34,6 +35,11 @@ pub record Reached (tokens : List Terminal) (at : ℕ) (parser : Parser) : Type 
   pub values : Kept
   pub read : HasRead (take at tokens) (drop at tokens) parser.pending values
   pub held : Holds parser.values values
+
+-- and what the next one is
+pub record Stands (tokens : List Terminal) (at : ℕ) (parser : Parser) (next : Terminal) : Type 0 where
+  pub reached : Reached tokens at parser
+  pub next_is : next ≡ first_terminal (drop at tokens)
 
 pub reached_start : (tokens : List Terminal) (parser : Parser) → parser.pending ≡ start → Holds parser.values (kept []) → Reached tokens 0 parser
 reached_start tokens parser e h = record {
@@ -172,7 +178,7 @@ spends machine.refused after h = absurd h
 pub record Held (tokens : List Terminal) (after : Parser) : Type 0 where
   pub tree : plain.Tree
   pub spelled : SpellsProgram tokens tree
-  pub held : Holds after.values (kept (v_tree tree ∷ []))
+  pub held : Holds after.values (kept (tree_value tree ∷ []))
 
 pub held_at_end : (tokens : List Terminal) (at : ℕ) (before after : Parser) → at ≡ length tokens → Reached tokens at before → ((values : Kept) → Holds before.values values → FedIs (feed before.pending values 0 Unlisted Unlisted) after Spent) → Held tokens after
 held_at_end tokens at before after e r h =
@@ -180,15 +186,13 @@ held_at_end tokens at before after e r h =
     let t = tree_at_end tokens before.pending r.values s.values (at_the_end tokens at before r e) s.is in
     record { tree = t.tree; spelled = t.spelled; held = subst (λ v. Holds after.values v) t.value s.held }
 
-pub answered_tree : (tokens : List Terminal) (tree : plain.Tree) (answer : Result Tree ParseFault) → SpellsProgram tokens tree → Finishes answer tree → IfOk answer (λ found. IsAnswer tokens (plain_of found))
-answered_tree tokens tree (Ok found) spelled (e, shallow) = subst (IsAnswer tokens) (sym e) (record { spelled = spelled; shallow = shallow })
-answered_tree tokens tree (Err fault) spelled h = tt
+pub answered_tree : (tokens : List Terminal) (tree : plain.Tree) (found : Option Tree) → SpellsProgram tokens tree → Finishes found tree → IfOk (ok_or {E = ParseFault} found TooDeep) (λ found. IsAnswer tokens (plain_of found))
+answered_tree tokens tree (Some found) spelled (e, shallow) = subst (IsAnswer tokens) (sym e) (record { spelled = spelled; shallow = shallow })
+answered_tree tokens tree None spelled h = tt
 
-pub answered_fault : (tokens : List Terminal) (tree : plain.Tree) (answer : Result Tree ParseFault) → SpellsProgram tokens tree → Finishes answer tree → IfErr answer (IsFault tokens)
-answered_fault tokens tree (Ok found) spelled h = tt
-answered_fault tokens tree (Err TooDeep) spelled h = (tree, spelled, h)
-answered_fault tokens tree (Err Memory) spelled h = tt
-answered_fault tokens tree (Err (Syntax at)) spelled h = absurd h
+pub answered_fault : (tokens : List Terminal) (tree : plain.Tree) (found : Option Tree) → SpellsProgram tokens tree → Finishes found tree → IfErr (ok_or {E = ParseFault} found TooDeep) (IsFault tokens)
+answered_fault tokens tree (Some found) spelled h = tt
+answered_fault tokens tree None spelled h = (tree, spelled, h)
 
 -- the only right answer
 

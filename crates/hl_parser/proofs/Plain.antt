@@ -1,11 +1,11 @@
 -- The plain tree of each form.
-use Rattle.std.proofs.Common.{◌≡◌, ◌∙◌, refl, sym, ap, ℕ, List, [], ◌∷◌, map, Option, None, Some}
+use Rattle.std.proofs.Common.{◌≡◌, ◌∙◌, sym, ap, ℕ, List, Option, None, Some}
 use Rattle.hl_parser.specs.declared.tree.Tree.{Tree, Tree-F, fold-roll-Tree}
 use Rattle.hl_parser.specs.declared.tree.Tree.TheVariants.{rolls-Program, rolls-Item, rolls-Struct, rolls-Member, rolls-Type, rolls-Basic, rolls-Declarator, rolls-Buffer, rolls-Kind, rolls-Shared, rolls-Constant, rolls-Init, rolls-Function, rolls-Result, rolls-Param, rolls-Direction, rolls-Attribute, rolls-Block, rolls-Stmt, rolls-Local, rolls-Start, rolls-If, rolls-For, rolls-While, rolls-Do, rolls-Jump, rolls-Expr, rolls-Choice, rolls-Or, rolls-And, rolls-Bitor, rolls-Bitxor, rolls-Bitand, rolls-Equal, rolls-Less, rolls-Shift, rolls-Sum, rolls-Product, rolls-Unary, rolls-Postfix, rolls-Primary, rolls-Args}
 use Rattle.hl_parser.specs.declared.tree.Tree.TheVariants as variants
 use Rattle.hl_parser.specs.Trees.{a_basic, a_binary, a_block, a_buffer, a_choice, a_constant, a_declarator, a_direction, a_do, a_for, a_function, a_jump, a_kind, a_local, a_member, a_param, a_postfix, a_primary, a_program, a_result, a_shared, a_start, a_stmt, a_struct, a_type, a_unary, a_while, an_args, an_attribute, an_expr, an_if, an_init, an_item}
 use Rattle.hl_parser.specs.Trees as plain
-use Rattle.hl_parser.specs.Views.{maybe_of, plain_maybe, plain_of, plain_step, plain_trees, trees_of}
+use Rattle.hl_parser.specs.Views.{plain_maybe, plain_of, plain_step, plain_trees}
 
 pub plain-Program : (at : ℕ) (items : List Tree) → plain_of (variants.Program at items) ≡ a_program at (plain_trees items)
 unfolding plain_of

@@ -1,13 +1,13 @@
 -- How far the machine has read, and where a syntax fault is.
-use Rattle.std.proofs.Common.{◌≡◌, ◌≢◌, ◌∙◌, refl, sym, ap, subst, ℕ, zero, suc, ◌+◌, ◌<◌, ◌≤◌, Option, None, Some, List, [], ◌∷◌, ◌++◌, length, take, drop, arith, append_assoc, append-nil}
+use Rattle.std.proofs.Common.{◌≡◌, ◌≢◌, ◌∙◌, refl, sym, ap, subst, ℕ, suc, ◌+◌, Option, None, Some, List, [], ◌∷◌, ◌++◌, length, take, arith, append_assoc, append-nil}
 use Rattle.hl_lexer.specs.declared.terminal.Terminal.{Terminal}
 use Rattle.hl_lexer.specs.declared.terminal.Terminal.TheVariants as terminals
 use Rattle.hl_parser.specs.declared.symbol.Symbol.{Symbol}
-use Rattle.hl_parser.specs.Grammar.{BeginsProgram, IsSyntaxFault, Numbered, SpellsProgram, nth, numbered, peek}
-use Rattle.hl_parser.specs.Machine.{Fed, Kept, after_token, at_end, fed, feed, kept, refused, run, spent, start, v_tree}
+use Rattle.hl_parser.specs.Grammar.{BeginsProgram, IsSyntaxFault, SpellsProgram, numbered, peek}
+use Rattle.hl_parser.specs.Machine.{Fed, Kept, after_token, at_end, fed, feed, kept, refused, run, spent, start, tree_value}
 use Rattle.hl_parser.specs.Trees.{Tree}
 use Rattle.hl_parser.proofs.Complete.{complete}
-use Rattle.hl_parser.proofs.Completion.{CompletesAll, completes_all}
+use Rattle.hl_parser.proofs.Completion.{completes_all}
 use Rattle.hl_parser.proofs.Independence.{outcome_of, same_outcome}
 use Rattle.hl_parser.proofs.SoundRun.{FedSound, accepted, feed_sound, start_program}
 use Rattle.hl_parser.proofs.Words.{Words}
@@ -83,7 +83,7 @@ stops front back t K V W n h unread more tree spelled =
     let done = complete (front ++ (t ∷ more)) tree spelled in
     let goes = h.goes_on (t ∷ more) refl in
     let fails = run_token K V (length front) t more ∙ no_value (feed K V (length front) t (next_of more)) _ (λ e. unread (same_outcome K W V (length front) (length front) t n (next_of more) ∙ e)) in
-    none_is_no_some (run start (kept []) (numbered 0 (front ++ (t ∷ more)))) (kept (v_tree tree ∷ [])) (goes ∙ fails) done
+    none_is_no_some (run start (kept []) (numbered 0 (front ++ (t ∷ more)))) (kept (tree_value tree ∷ [])) (goes ∙ fails) done
 
 take-front : (front back : List Terminal) → take (length front) (front ++ back) ≡ front
 take-front [] back = refl
@@ -126,7 +126,7 @@ fault_at_end front K V W h unread = record {
       let done = complete front tree spelled in
       let goes = ap (λ ts. run start (kept []) (numbered 0 ts)) (sym (append-nil front)) ∙ h.goes_on [] refl in
       let fails = no_end (feed K V 0 terminals.Unlisted terminals.Unlisted) (λ e. unread (same_outcome K W V 0 0 terminals.Unlisted terminals.Unlisted terminals.Unlisted ∙ e)) in
-      none_is_no_some (run start (kept []) (numbered 0 front)) (kept (v_tree tree ∷ [])) (goes ∙ fails) done;
+      none_is_no_some (run start (kept []) (numbered 0 front)) (kept (tree_value tree ∷ [])) (goes ∙ fails) done;
   within = omega arith;
   begins_before = subst BeginsProgram (sym (take_all front)) (begins front [] K V h);
   begins_not = λ below program. absurd (omega arith);
@@ -140,7 +140,7 @@ fault_at_end front K V W h unread = record {
 pub record IsTree (tokens : List Terminal) (values : Kept) : Type 0 where
   pub tree : Tree
   pub spelled : SpellsProgram tokens tree
-  pub value : values ≡ kept (v_tree tree ∷ [])
+  pub value : values ≡ kept (tree_value tree ∷ [])
 
 pub tree_at_end : (front : List Terminal) (K : List Symbol) (V V' : Kept) → HasRead front [] K V → feed K V 0 terminals.Unlisted terminals.Unlisted ≡ spent V' → IsTree front V'
 unfolding run
@@ -148,5 +148,5 @@ tree_at_end front K V V' h e =
     let ends : run start (kept []) (numbered 0 front) ≡ Some V' = ap (λ ts. run start (kept []) (numbered 0 ts)) (sym (append-nil front)) ∙ (h.goes_on [] refl ∙ ap at_end e) in
     let p = accepted front V' ends in
     let done = complete front p.0 p.1 in
-    let same : Some V' ≡ Some (kept (v_tree p.0 ∷ [])) = sym ends ∙ done in
+    let same : Some V' ≡ Some (kept (tree_value p.0 ∷ [])) = sym ends ∙ done in
     record { tree = p.0; spelled = p.1; value = cc }

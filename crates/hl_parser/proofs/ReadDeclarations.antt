@@ -1,24 +1,23 @@
 -- The machine reads declarations, one lemma a form.
-use Rattle.std.proofs.Common.{◌≡◌, ◌≢◌, ◌∙◌, refl, sym, ap, subst, ℕ, suc, ◌<◌, ◌≤◌, Bool, true, false, cond, if◌then◌else◌, eqb, nat_le, nat_lt, not, ◌&&◌, ◌||◌, ◌⊎◌, inl, inr, Option, None, Some, List, [], ◌∷◌, ◌++◌, arith}
+use Rattle.std.proofs.Common.{◌≡◌, ◌∙◌, refl, sym, ap, subst, ℕ, Bool, true, false, if◌then◌else◌, not, ◌||◌, inl, inr, Option, None, Some, List, [], ◌∷◌, arith}
 use Rattle.hl_lexer.specs.declared.terminal.Terminal.{Terminal}
 use Rattle.hl_lexer.specs.declared.terminal.Terminal.TheVariants as terminals
-use Rattle.hl_parser.specs.declared.act.Act.{Act}
 use Rattle.hl_parser.specs.declared.act.Act.TheVariants as acts
 use Rattle.hl_parser.specs.declared.symbol.Symbol.{Symbol}
 use Rattle.hl_parser.specs.declared.symbol.Symbol.TheVariants as symbols
-use Rattle.hl_parser.specs.Codes.{all_terminals, is}
-use Rattle.hl_parser.specs.Grammar.{Commas, Each, Headed, Mark, NoElse, Nothing, Numbered, Operator, RegisterIs, SemanticIs, SpaceIs, Spells, Step, Token, Word, first_among, first_if, first_of, is_basic, is_direction, is_element_kind, is_jump, is_raw_kind, n_args, n_attribute, n_basic, n_block, n_buffer, n_constant, n_declarator, n_direction, n_do, n_expr, n_for, n_function, n_if, n_init, n_item, n_jump, n_kind, n_local, n_member, n_param, n_primary, n_result, n_shared, n_start, n_stmt, n_struct, n_type, n_while, nth, peek, ◌or◌, ◌then◌}
-use Rattle.hl_parser.specs.Machine.{Kept, Move, Value, append_tree, begins_expression, begins_init, begins_item, begins_local, begins_param, begins_statement, begins_type, behind_kind, followed, is_control, kept, led, move_of, on_attributed, on_first, on_init, on_item, on_local, on_member, on_operand, on_optional, on_param, on_result, on_statement, on_type, perform, reads, rest_of_attribute, rest_of_buffer, rest_of_function, start, v_none, v_token, v_tree, v_trees, yields}
-use Rattle.hl_parser.specs.Trees.{Tree, a_program, an_item, a_struct, a_member, a_type, a_basic, a_declarator, a_buffer, a_kind, a_shared, a_constant, an_init, a_function, a_result, a_param, a_direction, an_attribute, a_block, a_stmt, a_local, a_start, an_if, a_for, a_while, a_do, a_jump, an_expr, a_choice, a_binary, a_unary, a_postfix, a_primary, an_args, Trees, no_trees, more_trees, Maybe, absent, present, at_of}
-use Rattle.hl_parser.proofs.Claims.{Claim, Claimed, CommasClaimed, EachClaimed, LengthsClaimed, Loops, Takes, TakesAttribute, TakesBefore, TakesProgram, always, append_trees, closes, ends_declarator, ends_local, ends_param, ends_start}
-use Rattle.hl_parser.proofs.Moves.{closes_no_name, if_false, if_true, never_followed, never_if, never_led, never_only, operand_never, type_never}
-use Rattle.hl_parser.proofs.Opening.{Opens, basic_token, opens, peek_mark}
+use Rattle.hl_parser.specs.Codes.{is}
+use Rattle.hl_parser.specs.Grammar.{Mark, Numbered, RegisterIs, SpaceIs, Spells, Step, Token, Word, is_basic, is_element_kind, is_raw_kind, n_declarator, n_expr, n_init, n_kind, n_member, n_type, nth, peek, ◌or◌, ◌then◌}
+use Rattle.hl_parser.specs.Machine.{Kept, Value, append_tree, begins_expression, begins_init, begins_type, behind_kind, kept, move_of, on_item, on_type, reads, rest_of_buffer, no_value, token_value, tree_value, trees_value}
+use Rattle.hl_parser.specs.Trees.{Tree, a_struct, a_member, a_type, a_basic, a_declarator, a_buffer, a_kind, a_shared, a_constant, an_init, an_args, Trees, no_trees, more_trees, absent, present, at_of}
+use Rattle.hl_parser.proofs.Claims.{Claimed, CommasClaimed, EachClaimed, LengthsClaimed, Loops, Takes, TakesBefore, always, append_trees, closes, ends_declarator}
+use Rattle.hl_parser.proofs.Moves.{closes_no_name, if_false, if_true, never_followed, operand_never, type_never}
+use Rattle.hl_parser.proofs.Opening.{basic_token, opens, peek_mark}
 use Rattle.hl_parser.proofs.ReadExpressions.{closed, commas_close, expressions_loop}
-use Rattle.hl_parser.proofs.ReadLists.{all_appended, attributes_loop, comma_loop, each_loop, lengths_loop, none_appended}
-use Rattle.hl_parser.proofs.Runs.{NeverYields, Runs, does, followed_by, index_of, led_by, move_at, name, reads_at, rest_of, same_as, skip, yields_to}
+use Rattle.hl_parser.proofs.ReadLists.{all_appended, comma_loop, each_loop, lengths_loop, none_appended}
+use Rattle.hl_parser.proofs.Runs.{Runs, does, followed_by, name, reads_at, rest_of, skip, yields_to}
 use Rattle.hl_parser.proofs.Shapes.{number_is}
-use Rattle.hl_parser.proofs.Terminals.{all_pass, by_every, implies, not_true}
-use Rattle.hl_parser.proofs.StandsAs.{as_attribute, as_block, as_declarator, as_init, as_item, as_kind, as_member, as_param, as_result, as_type}
+use Rattle.hl_parser.proofs.Terminals.{by_every, not_true}
+use Rattle.hl_parser.proofs.StandsAs.{as_declarator, as_init, as_kind, as_member, as_type}
 
 -- ---- arguments
 
@@ -38,7 +37,7 @@ args_read at first others from m n o to e c more close_mark = λ K vs w rest.
     (closed first m n c behind _ _ _
     (does (expressions_loop others n o more (ap closes (peek_mark close_mark)) _ _ _ _ (ap (λ t. move_of symbols.Expressions t (peek (rest_of o))) (peek_mark close_mark))
     (skip close_mark
-    (does (subst (λ ts. Runs K (kept (v_tree (an_args at ts) ∷ vs)) to w) (sym (all_appended first others)) rest))))))))
+    (does (subst (λ ts. Runs K (kept (tree_value (an_args at ts) ∷ vs)) to w) (sym (all_appended first others)) rest))))))))
 
 -- ---- types
 
@@ -70,7 +69,7 @@ type_begins tree from to h = let t = type_token tree from to h in ap (λ ts. beg
 pub basic_type_read : (at at_basic : ℕ) (from to : List Numbered) → at ≡ at_basic → Word at_basic is_basic from to → Takes symbols.Type (a_type at (present (a_basic at_basic))) from to
 basic_type_read at at_basic from to e (t, c, em) = λ K vs w rest.
     reads_at (acts.Here ∷ []) (symbols.Make acts.Basic ∷ symbols.Make acts.BasicType ∷ []) em (if_true (is_basic t) _ _ c)
-    (does (does (subst (λ a. Runs K (kept (v_tree (a_type a (present (a_basic at_basic))) ∷ vs)) to w) e rest)))
+    (does (does (subst (λ a. Runs K (kept (tree_value (a_type a (present (a_basic at_basic))) ∷ vs)) to w) e rest)))
 
 pub name_type_read : (at : ℕ) (from to : List Numbered) → Token at terminals.Name from to → Takes symbols.Type (a_type at absent) from to
 name_type_read at from to e = λ K vs w rest. reads_at (acts.Here ∷ []) (symbols.Make acts.NameType ∷ []) e refl (does rest)
@@ -81,20 +80,20 @@ pub declarator_read : (at : ℕ) (lengths : Trees) (from m to : List Numbered) �
 declarator_read at lengths from m to e more = λ K vs w end rest.
     reads_at (acts.Here ∷ []) (symbols.Make acts.Empty ∷ symbols.Lengths ∷ symbols.Make acts.Declarator ∷ []) e refl
     (does (lengths_loop lengths m to more _ _ _ _ (if_false (is (peek to) terminals.OpenBracket) _ _ (not_true _ end))
-    (does (subst (λ ts. Runs K (kept (v_tree (a_declarator at ts) ∷ vs)) to w) (sym (none_appended lengths)) rest))))
+    (does (subst (λ ts. Runs K (kept (tree_value (a_declarator at ts) ∷ vs)) to w) (sym (none_appended lengths)) rest))))
 
 declarators_loop : (trees : Trees) (from to : List Numbered) → CommasClaimed n_declarator trees from to → ends_declarator (peek to) ≡ true → Loops symbols.Declarators trees from to
 declarators_loop = comma_loop symbols.Declarators symbols.Declarator n_declarator ends_declarator (λ next. refl) refl as_declarator
 
 -- declarators before a semicolon, behind a type
 declared : (first : Tree) (others : Trees) (from m n to : List Numbered) (K : List Symbol) (vs : List Value) (w : Option Kept) → Claimed n_declarator first from m → CommasClaimed n_declarator others m n → Mark terminals.Semicolon n to →
-    Runs K (kept (v_trees (more_trees first others) ∷ vs)) to w →
+    Runs K (kept (trees_value (more_trees first others) ∷ vs)) to w →
     Runs (symbols.Make acts.Empty ∷ symbols.Declarator ∷ symbols.Make acts.Append ∷ symbols.Declarators ∷ symbols.Skip terminals.Semicolon ∷ K) (kept vs) from w
 declared first others from m n to K vs w c more semicolon rest =
     let behind : ends_declarator (peek n) ≡ true = ap ends_declarator (peek_mark semicolon) in
     does (as_declarator first from m c _ _ _ (commas_close n_declarator ends_declarator others m n refl more behind)
     (does (declarators_loop others m n more behind _ _ _ _ (ap (λ t. move_of symbols.Declarators t (peek (rest_of n))) (peek_mark semicolon))
-    (skip semicolon (subst (λ ts. Runs K (kept (v_trees ts ∷ vs)) to w) (sym (all_appended first others)) rest)))))
+    (skip semicolon (subst (λ ts. Runs K (kept (trees_value ts ∷ vs)) to w) (sym (all_appended first others)) rest)))))
 
 pub member_read : (at : ℕ) (type first : Tree) (others : Trees) (from m n o to : List Numbered) → at ≡ at_of type → Claimed n_type type from m → Claimed n_declarator first m n → CommasClaimed n_declarator others n o → Mark terminals.Semicolon o to → Takes symbols.Member (a_member at type (more_trees first others)) from to
 member_read at type first others from m n o to e ct cf more semicolon = λ K vs w rest.
@@ -103,7 +102,7 @@ member_read at type first others from m n o to e ct cf more semicolon = λ K vs 
     from refl (type_never (peek from))
     (as_type type from m ct _ _ _
     (declared first others m n o to _ _ _ cf more semicolon
-    (does (subst (λ a. Runs K (kept (v_tree (a_member a type (more_trees first others)) ∷ vs)) to w) e rest))))
+    (does (subst (λ a. Runs K (kept (tree_value (a_member a type (more_trees first others)) ∷ vs)) to w) e rest))))
 
 member_begins : (tree : Tree) (from to : List Numbered) → Spells n_member tree from to → begins_type (peek from) ≡ true
 member_begins (a_member at type declarators) from to (a, b, (e, (m, ht, h))) = type_begins type from m ht
@@ -124,13 +123,13 @@ struct_read at index first others from m n o p q r to word named open_mark cf mo
     (name named (skip open_mark (does (as_member first o p cf _ _ _
     (does (members_loop others p q more _ _ _ _ (ap (λ t. move_of symbols.Members t (peek (rest_of q))) (peek_mark close_mark))
     (skip close_mark (skip semicolon
-    (does (subst (λ ts. Runs (symbols.Make acts.Item ∷ K) (kept (v_tree (a_struct at index ts) ∷ vs)) to w) (sym (all_appended first others)) rest))))))))))
+    (does (subst (λ ts. Runs (symbols.Make acts.Item ∷ K) (kept (tree_value (a_struct at index ts) ∷ vs)) to w) (sym (all_appended first others)) rest))))))))))
 
 -- ---- buffers
 
 abbrev pub option_value : Option ℕ → Value
-option_value None = v_none
-option_value (Some index) = v_token index
+option_value None = no_value
+option_value (Some index) = token_value index
 
 space_read : (space : Option ℕ) (from to : List Numbered) (K : List Symbol) (vs : List Value) (w : Option Kept) → SpaceIs space from to → peek to ≡ terminals.CloseParenthesis → Runs K (kept (option_value space ∷ vs)) to w → Runs (symbols.Space ∷ K) (kept vs) from w
 space_read None from to K vs w e end rest =
@@ -149,11 +148,11 @@ register_read (Some register) space from to K vs w (m, colon, (n, word, (o, open
     colon.1 refl
     (skip word (skip open_mark (name named (space_read space p q _ _ _ has_space (peek_mark close_mark) (skip close_mark rest)))))
 
-buffer_made : (at : ℕ) (kind : Tree) (index : ℕ) (register space : Option ℕ) (to : List Numbered) (K : List Symbol) (vs : List Value) (w : Option Kept) → at ≡ at_of kind → Runs K (kept (v_tree (a_buffer at kind index register space) ∷ vs)) to w → Runs (symbols.Make acts.Buffer ∷ K) (kept (option_value space ∷ option_value register ∷ v_token index ∷ v_tree kind ∷ vs)) to w
-buffer_made at kind index None None to K vs w e rest = does (subst (λ a. Runs K (kept (v_tree (a_buffer a kind index None None) ∷ vs)) to w) e rest)
-buffer_made at kind index None (Some s) to K vs w e rest = does (subst (λ a. Runs K (kept (v_tree (a_buffer a kind index None (Some s)) ∷ vs)) to w) e rest)
-buffer_made at kind index (Some r) None to K vs w e rest = does (subst (λ a. Runs K (kept (v_tree (a_buffer a kind index (Some r) None) ∷ vs)) to w) e rest)
-buffer_made at kind index (Some r) (Some s) to K vs w e rest = does (subst (λ a. Runs K (kept (v_tree (a_buffer a kind index (Some r) (Some s)) ∷ vs)) to w) e rest)
+buffer_made : (at : ℕ) (kind : Tree) (index : ℕ) (register space : Option ℕ) (to : List Numbered) (K : List Symbol) (vs : List Value) (w : Option Kept) → at ≡ at_of kind → Runs K (kept (tree_value (a_buffer at kind index register space) ∷ vs)) to w → Runs (symbols.Make acts.Buffer ∷ K) (kept (option_value space ∷ option_value register ∷ token_value index ∷ tree_value kind ∷ vs)) to w
+buffer_made at kind index None None to K vs w e rest = does (subst (λ a. Runs K (kept (tree_value (a_buffer a kind index None None) ∷ vs)) to w) e rest)
+buffer_made at kind index None (Some s) to K vs w e rest = does (subst (λ a. Runs K (kept (tree_value (a_buffer a kind index None (Some s)) ∷ vs)) to w) e rest)
+buffer_made at kind index (Some r) None to K vs w e rest = does (subst (λ a. Runs K (kept (tree_value (a_buffer a kind index (Some r) None) ∷ vs)) to w) e rest)
+buffer_made at kind index (Some r) (Some s) to K vs w e rest = does (subst (λ a. Runs K (kept (tree_value (a_buffer a kind index (Some r) (Some s)) ∷ vs)) to w) e rest)
 
 pub buffer_read : (at : ℕ) (kind : Tree) (index : ℕ) (register space : Option ℕ) (from m n o to : List Numbered) → at ≡ at_of kind → Claimed n_kind kind from m → Token index terminals.Name m n → RegisterIs register space n o → Mark terminals.Semicolon o to → TakesBefore always symbols.Item (symbols.Make acts.Item ∷ []) (a_buffer at kind index register space) from to
 buffer_read at kind index register space from m n o to e ck named has_register semicolon = λ K vs w end rest.
@@ -207,7 +206,7 @@ value_read at value from to e c = λ K vs w end rest.
     followed_by (symbols.Operand 27) (symbols.Make acts.Value ∷ []) from (if_true (begins_expression (peek from)) _ _ opening.begins)
     (operand_never 27 (peek from) (peek (rest_of from)))
     (closed value from to c end _ _ _
-    (does (subst (λ a. Runs K (kept (v_tree (an_init a (present value) no_trees) ∷ vs)) to w) e rest)))
+    (does (subst (λ a. Runs K (kept (tree_value (an_init a (present value) no_trees) ∷ vs)) to w) e rest)))
 
 init_begins : (tree : Tree) (from to : List Numbered) → Spells n_init tree from to → closes (peek to) ≡ true → begins_init (peek from) ≡ true
 init_begins (an_init at (present value) no_trees) from to (a, b, (e, h)) end =
@@ -226,7 +225,7 @@ unfolding BracesEnd
 braces_end_closes from to (inl h) = ap closes (peek_mark h)
 braces_end_closes from to (inr (m, comma, h)) = ap closes (peek_mark comma)
 
-inits_read : (trees : Trees) (from m to : List Numbered) (K : List Symbol) (vs : List Value) (done : Trees) (w : Option Kept) → CommasClaimed n_init trees from m → BracesEnd m to → Runs K (kept (v_trees (append_trees done trees) ∷ vs)) to w → Runs (symbols.Inits ∷ K) (kept (v_trees done ∷ vs)) from w
+inits_read : (trees : Trees) (from m to : List Numbered) (K : List Symbol) (vs : List Value) (done : Trees) (w : Option Kept) → CommasClaimed n_init trees from m → BracesEnd m to → Runs K (kept (trees_value (append_trees done trees) ∷ vs)) to w → Runs (symbols.Inits ∷ K) (kept (trees_value done ∷ vs)) from w
 unfolding BracesEnd
 inits_read no_trees from m to K vs done w is_end (inl close_mark) rest =
     reads_at [] [] (is_end ∙ close_mark.1) refl rest
@@ -248,4 +247,4 @@ braces_read at first others from m n o to brace cf more braces_end = λ K vs w e
     (symbols.Make acts.Empty ∷ symbols.Init ∷ symbols.Make acts.Append ∷ symbols.Inits ∷ symbols.Make acts.Braces ∷ []) brace refl
     (does (as_init first m n cf _ _ _ behind
     (does (inits_read others n o to _ _ _ _ more braces_end
-    (does (subst (λ ts. Runs K (kept (v_tree (an_init at absent ts) ∷ vs)) to w) (sym (all_appended first others)) rest))))))
+    (does (subst (λ ts. Runs K (kept (tree_value (an_init at absent ts) ∷ vs)) to w) (sym (all_appended first others)) rest))))))

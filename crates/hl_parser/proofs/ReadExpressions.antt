@@ -1,21 +1,20 @@
 -- The machine reads expressions, one lemma a form.
-use Rattle.std.proofs.Common.{◌≡◌, ◌∙◌, refl, sym, ap, ap₂, subst, ℕ, suc, ◌<◌, ◌≤◌, Bool, true, false, cond, if◌then◌else◌, eqb, nat_le, nat_lt, not, ◌&&◌, ◌||◌, Option, None, Some, List, [], ◌∷◌, ◌++◌, arith}
+use Rattle.std.proofs.Common.{◌≡◌, ◌∙◌, refl, sym, ap, ap₂, subst, ℕ, suc, ◌<◌, ◌≤◌, Bool, true, false, ◌&&◌, Option, None, Some, List, [], ◌∷◌, arith}
 use Rattle.std.proofs.lemmas.Bool.{le-leb}
 use Rattle.hl_lexer.specs.declared.terminal.Terminal.{Terminal}
 use Rattle.hl_lexer.specs.declared.terminal.Terminal.TheVariants as terminals
 use Rattle.hl_parser.specs.declared.act.Act.TheVariants as acts
 use Rattle.hl_parser.specs.declared.symbol.Symbol.{Symbol}
 use Rattle.hl_parser.specs.declared.symbol.Symbol.TheVariants as symbols
-use Rattle.hl_parser.specs.Codes.{all_terminals, is}
-use Rattle.hl_parser.specs.Grammar.{Mark, Nothing, Numbered, Operator, PerhapsListed, Spells, Token, Word, is_assign, is_basic, is_prefix, is_step, is_word, last_for, n_args, n_basic, n_choice, n_expr, n_or, n_postfix, n_primary, n_product, n_unary, nth, operator_of, peek, ◌then◌}
-use Rattle.hl_parser.specs.Machine.{Kept, Value, append_tree, begins_expression, begins_local, gone, is_level, is_repeating, joins_to, kept, level_of, make_binary, move_of, on_args, on_operand, reads, v_none, v_token, v_tree, v_trees, yields}
-use Rattle.hl_parser.specs.Trees.{Tree, a_program, an_item, a_struct, a_member, a_type, a_basic, a_declarator, a_buffer, a_kind, a_shared, a_constant, an_init, a_function, a_result, a_param, a_direction, an_attribute, a_block, a_stmt, a_local, a_start, an_if, a_for, a_while, a_do, a_jump, an_expr, a_choice, a_binary, a_unary, a_postfix, a_primary, an_args, Trees, no_trees, more_trees, Maybe, absent, present, at_of}
-use Rattle.hl_parser.proofs.Claims.{Claim, Claimed, CommasClaimed, Loops, Quiet, Takes, TakesExpression, append_trees, closes, edge_of}
-use Rattle.hl_parser.proofs.Moves.{class_quiet, closes_no_name, edge_above, edge_high, edge_low, edge_repeats, if_false, if_true, joins_assign, joins_high, level_assign, level_not_unary, level_repeating, level_step, operand_basic, operand_never, operand_prefix, operand_word, operator_assign, operator_repeating, operator_step, quiet_closes, repeating, tail_takes, tail_yields}
-use Rattle.hl_parser.proofs.Opening.{Opens, args_open, basic_class, basic_token, last_of_expression, not_expression, opens, peek_mark}
-use Rattle.hl_parser.proofs.Runs.{Runs, does, followed_by, move_at, name, reads_at, rest_of, same_as, skip, yields_to}
+use Rattle.hl_parser.specs.Codes.{is}
+use Rattle.hl_parser.specs.Grammar.{Mark, Numbered, Operator, Spells, Token, Word, is_assign, is_basic, is_prefix, is_step, is_word, n_choice, n_expr, n_or, n_postfix, n_primary, n_product, n_unary, peek}
+use Rattle.hl_parser.specs.Machine.{Kept, Value, append_tree, begins_expression, begins_local, gone, is_level, is_repeating, joins_to, kept, level_of, make_binary, move_of, on_args, on_operand, reads, no_value, token_value, tree_value, trees_value, yields}
+use Rattle.hl_parser.specs.Trees.{Tree, a_basic, an_expr, a_choice, a_binary, a_unary, a_postfix, a_primary, Trees, no_trees, more_trees, absent, present, at_of}
+use Rattle.hl_parser.proofs.Claims.{Claim, Claimed, CommasClaimed, Loops, Takes, TakesExpression, closes, edge_of}
+use Rattle.hl_parser.proofs.Moves.{class_quiet, closes_no_name, edge_above, edge_high, edge_repeats, if_false, if_true, joins_assign, joins_high, level_assign, level_not_unary, level_repeating, level_step, operand_basic, operand_never, operand_prefix, operand_word, operator_assign, operator_repeating, operator_step, quiet_closes, repeating, tail_takes, tail_yields}
+use Rattle.hl_parser.proofs.Opening.{last_of_expression, not_expression, opens, peek_mark}
+use Rattle.hl_parser.proofs.Runs.{Runs, does, followed_by, name, reads_at, rest_of, same_as, skip, yields_to}
 use Rattle.hl_parser.proofs.Shapes.{number_is, number_of}
-use Rattle.hl_parser.proofs.Terminals.{all_pass, by_every, implies}
 
 -- a tree that stands as an expression is read as one
 as_expression : (tree : Tree) (asked : ℕ) (from to : List Numbered) → n_expr ≤ asked → asked ≤ n_primary → Spells asked tree from to → Claim tree from to → TakesExpression tree from to
@@ -55,7 +54,7 @@ closed tree from to c e =
 -- the left side of an operator
 left_side : (asked level k : ℕ) (tree : Tree) (t : Terminal) (from m : List Numbered) (K : List Symbol) (vs : List Value) (w : Option Kept) →
     n_expr ≤ asked → asked ≤ n_primary → Claimed asked tree from m → peek m ≡ t → level_of t ≡ level → k ≤ asked → level < edge_of (number_of tree) → is t terminals.OpenParenthesis ≡ false →
-    Runs (symbols.Tail (number_of tree) k ∷ K) (kept (v_tree tree ∷ vs)) m w → Runs (symbols.Operand k ∷ K) (kept vs) from w
+    Runs (symbols.Tail (number_of tree) k ∷ K) (kept (tree_value tree ∷ vs)) m w → Runs (symbols.Operand k ∷ K) (kept vs) from w
 left_side asked level k tree t from m K vs w l u c e f low below no_call rest =
     let b = between tree asked from m l u c.spelled in
     let same : level_of (peek m) ≡ level = ap level_of e ∙ f in
@@ -80,8 +79,8 @@ binary_reads production at left mark right from m n to low high e cl (t, eo, em)
     (tail_takes (number_of left) k production t (peek n) level k_low (omega arith) ∙ operator_repeating k t rep
     ∙ ap (λ p. reads (acts.Here ∷ []) (symbols.Operand (suc p) ∷ symbols.Make (acts.Binary p) ∷ symbols.Tail p k ∷ [])) eo)
     (whole (suc production) right n to (omega arith) (omega arith) cr quiet_below quiet.no_call _ _ _
-    (does (subst (λ V. Runs (symbols.Tail production k ∷ K) V to w) (sym (if_true (is_level production) (make_binary production (v_tree right ∷ v_token mark ∷ v_tree left ∷ vs)) gone (level_true production low high)))
-    (subst (λ a. Runs (symbols.Tail production k ∷ K) (kept (v_tree (a_binary production a left mark right) ∷ vs)) to w) e rest)))))
+    (does (subst (λ V. Runs (symbols.Tail production k ∷ K) V to w) (sym (if_true (is_level production) (make_binary production (tree_value right ∷ token_value mark ∷ tree_value left ∷ vs)) gone (level_true production low high)))
+    (subst (λ a. Runs (symbols.Tail production k ∷ K) (kept (tree_value (a_binary production a left mark right) ∷ vs)) to w) e rest)))))
 
 pub assignment_reads : (at : ℕ) (left : Tree) (mark : ℕ) (right : Tree) (from m n to : List Numbered) → at ≡ at_of left → Claimed n_choice left from m → Word mark is_assign m n → Claimed n_expr right n to → TakesExpression (an_expr at left mark right) from to
 assignment_reads at left mark right from m n to e cl (t, c, em) cr = λ k K vs w k_low quiet rest.
@@ -93,7 +92,7 @@ assignment_reads at left mark right from m n to e cl (t, c, em) cr = λ k K vs w
     (reads_at (acts.Here ∷ []) (symbols.Operand 27 ∷ symbols.Make acts.Assignment ∷ symbols.Tail 27 k ∷ []) em
     (tail_takes (number_of left) k 27 t (peek n) level k_low (joins_assign (number_of left) b.low) ∙ operator_assign k t c)
     (whole n_expr right n to (omega arith) (omega arith) cr quiet.below quiet.no_call _ _ _
-    (does (subst (λ a. Runs (symbols.Tail 27 k ∷ K) (kept (v_tree (an_expr a left mark right) ∷ vs)) to w) e rest))))
+    (does (subst (λ a. Runs (symbols.Tail 27 k ∷ K) (kept (tree_value (an_expr a left mark right) ∷ vs)) to w) e rest))))
 
 pub choice_reads : (at : ℕ) (condition consequent alternative : Tree) (from m n o p to : List Numbered) → at ≡ at_of condition → Claimed n_or condition from m → Mark terminals.Question m n → Claimed n_expr consequent n o → Mark terminals.Colon o p → Claimed n_choice alternative p to → TakesExpression (a_choice at condition consequent alternative) from to
 choice_reads at condition consequent alternative from m n o p to e cc question cs colon ca = λ k K vs w k_low quiet rest.
@@ -106,7 +105,7 @@ choice_reads at condition consequent alternative from m n o p to e cc question c
     (closed consequent n o cs (ap closes (peek_mark colon)) _ _ _
     (skip colon
     (whole n_choice alternative p to (omega arith) (omega arith) ca quiet.below quiet.no_call _ _ _
-    (does (subst (λ a. Runs (symbols.Tail 29 k ∷ K) (kept (v_tree (a_choice a condition consequent alternative) ∷ vs)) to w) e rest))))))
+    (does (subst (λ a. Runs (symbols.Tail 29 k ∷ K) (kept (tree_value (a_choice a condition consequent alternative) ∷ vs)) to w) e rest))))))
 
 pub unary_reads : (at : ℕ) (operand : Tree) (from m to : List Numbered) → Word at is_prefix from m → Claimed n_unary operand m to → TakesExpression (a_unary at absent operand) from to
 unary_reads at operand from m to (t, c, em) co = λ k K vs w k_low quiet rest.
@@ -125,7 +124,7 @@ cast_reads at at_basic operand from m n o to open_mark (t, c, em) close_mark co 
 -- what stands behind an operand
 
 behind_operand : (k : ℕ) (operand : Tree) (t : Terminal) (from m : List Numbered) (K : List Symbol) (vs : List Value) (w : Option Kept) → k ≤ 41 → Claimed n_postfix operand from m → peek m ≡ t → level_of t ≡ 41 → is t terminals.OpenParenthesis ≡ false →
-    Runs (symbols.Tail (number_of operand) k ∷ K) (kept (v_tree operand ∷ vs)) m w → Runs (symbols.Operand k ∷ K) (kept vs) from w
+    Runs (symbols.Tail (number_of operand) k ∷ K) (kept (tree_value operand ∷ vs)) m w → Runs (symbols.Operand k ∷ K) (kept vs) from w
 behind_operand k operand t from m K vs w k_low c e level no_call rest =
     let b = between operand n_postfix from m (omega arith) (omega arith) c.spelled in
     let edge = edge_high (number_of operand) (omega arith) b.high in
@@ -144,7 +143,7 @@ field_reads at operand mark index from m n to e c dot member = λ k K vs w k_low
     (takes_postfix k operand terminals.Dot (peek n) from m k_low c refl)
     (name member
     (yields_to (acts.Absent ∷ []) to (if_false (is (peek to) terminals.OpenParenthesis) _ _ quiet.no_call)
-    (does (subst (λ a. Runs (symbols.Tail 41 k ∷ K) (kept (v_tree (a_postfix a operand mark (Some index) absent) ∷ vs)) to w) e rest)))))
+    (does (subst (λ a. Runs (symbols.Tail 41 k ∷ K) (kept (tree_value (a_postfix a operand mark (Some index) absent) ∷ vs)) to w) e rest)))))
 
 pub method_reads : (at : ℕ) (operand : Tree) (mark index : ℕ) (arguments : Tree) (from m n o to : List Numbered) → at ≡ at_of operand → Claimed n_postfix operand from m → Token mark terminals.Dot m n → Token index terminals.Name n o → peek o ≡ terminals.OpenParenthesis → Takes symbols.Args arguments o to → TakesExpression (a_postfix at operand mark (Some index) (present arguments)) from to
 method_reads at operand mark index arguments from m n o to e c dot member parenthesis args = λ k K vs w k_low quiet rest.
@@ -154,7 +153,7 @@ method_reads at operand mark index arguments from m n o to e c dot member parent
     (name member
     (same_as symbols.Args o (if_true (is (peek o) terminals.OpenParenthesis) (on_args (peek o)) _ (ap (λ x. is x terminals.OpenParenthesis) parenthesis))
     (args _ _ _
-    (does (subst (λ a. Runs (symbols.Tail 41 k ∷ K) (kept (v_tree (a_postfix a operand mark (Some index) (present arguments)) ∷ vs)) to w) e rest))))))
+    (does (subst (λ a. Runs (symbols.Tail 41 k ∷ K) (kept (tree_value (a_postfix a operand mark (Some index) (present arguments)) ∷ vs)) to w) e rest))))))
 
 pub index_reads : (at : ℕ) (operand : Tree) (mark : ℕ) (index : Tree) (from m n o to : List Numbered) → at ≡ at_of operand → Claimed n_postfix operand from m → Token mark terminals.OpenBracket m n → Claimed n_expr index n o → Mark terminals.CloseBracket o to → TakesExpression (a_postfix at operand mark None (present index)) from to
 index_reads at operand mark index from m n o to e c bracket ci close_mark = λ k K vs w k_low quiet rest.
@@ -163,14 +162,14 @@ index_reads at operand mark index from m n o to e c bracket ci close_mark = λ k
     (takes_postfix k operand terminals.OpenBracket (peek n) from m k_low c refl)
     (closed index n o ci (ap closes (peek_mark close_mark)) _ _ _
     (skip close_mark
-    (does (subst (λ a. Runs (symbols.Tail 41 k ∷ K) (kept (v_tree (a_postfix a operand mark None (present index)) ∷ vs)) to w) e rest)))))
+    (does (subst (λ a. Runs (symbols.Tail 41 k ∷ K) (kept (tree_value (a_postfix a operand mark None (present index)) ∷ vs)) to w) e rest)))))
 
 pub step_reads : (at : ℕ) (operand : Tree) (mark : ℕ) (from m to : List Numbered) → at ≡ at_of operand → Claimed n_postfix operand from m → Word mark is_step m to → TakesExpression (a_postfix at operand mark None absent) from to
 step_reads at operand mark from m to e c (t, ct, em) = λ k K vs w k_low quiet rest.
     behind_operand k operand t from m K vs w k_low c (ap peek em) (level_step t ct) (class_quiet is_step 41 t refl ct)
     (reads_at (acts.Here ∷ []) (symbols.Make acts.Step ∷ symbols.Tail 41 k ∷ []) em
     (takes_postfix k operand t (peek to) from m k_low c (level_step t ct) ∙ operator_step k t ct)
-    (does (subst (λ a. Runs (symbols.Tail 41 k ∷ K) (kept (v_tree (a_postfix a operand mark None absent) ∷ vs)) to w) e rest)))
+    (does (subst (λ a. Runs (symbols.Tail 41 k ∷ K) (kept (tree_value (a_postfix a operand mark None absent) ∷ vs)) to w) e rest)))
 
 -- what stands alone
 
@@ -187,7 +186,7 @@ call_reads at arguments from m to em parenthesis args = λ k K vs w k_low quiet 
 pub constructor_reads : (at at_basic : ℕ) (arguments : Tree) (from m to : List Numbered) → at ≡ at_basic → Word at_basic is_basic from m → Takes symbols.Args arguments m to → TakesExpression (a_primary at (present (a_basic at_basic)) (present arguments)) from to
 constructor_reads at at_basic arguments from m to e (t, c, em) args = λ k K vs w k_low quiet rest.
     reads_at (acts.Here ∷ []) (symbols.Make acts.Basic ∷ symbols.Args ∷ symbols.Make acts.Constructor ∷ symbols.Tail 42 k ∷ []) em (operand_basic k t (peek m) c)
-    (does (args _ _ _ (does (subst (λ a. Runs (symbols.Tail 42 k ∷ K) (kept (v_tree (a_primary a (present (a_basic at_basic)) (present arguments)) ∷ vs)) to w) e rest))))
+    (does (args _ _ _ (does (subst (λ a. Runs (symbols.Tail 42 k ∷ K) (kept (tree_value (a_primary a (present (a_basic at_basic)) (present arguments)) ∷ vs)) to w) e rest))))
 
 pub parentheses_reads : (at : ℕ) (inner : Tree) (from m n to : List Numbered) → Token at terminals.OpenParenthesis from m → Claimed n_expr inner m n → Mark terminals.CloseParenthesis n to → TakesExpression (a_primary at (present inner) absent) from to
 parentheses_reads at inner from m n to open_mark c close_mark = λ k K vs w k_low quiet rest.
@@ -207,7 +206,7 @@ commas_close asked test (more_trees first rest) from to comma (m, hm, more) h = 
 
 pub expressions_loop : (trees : Trees) (from to : List Numbered) → CommasClaimed n_expr trees from to → closes (peek to) ≡ true → Loops symbols.Expressions trees from to
 expressions_loop no_trees from to e c = λ K vs done w move rest.
-    subst (λ ts. Runs (symbols.Expressions ∷ K) (kept (v_trees done ∷ vs)) ts w) (sym e) (yields_to [] to move rest)
+    subst (λ ts. Runs (symbols.Expressions ∷ K) (kept (trees_value done ∷ vs)) ts w) (sym e) (yields_to [] to move rest)
 expressions_loop (more_trees first others) from to (m, comma, (n, cf, more)) c = λ K vs done w move rest.
     reads_at [] (symbols.Operand 27 ∷ symbols.Make acts.Append ∷ symbols.Expressions ∷ []) comma.1 refl
     (closed first m n cf (commas_close n_expr closes others n to refl more c) _ _ _

@@ -1,25 +1,24 @@
 -- The machine reads functions, items and programs, one lemma a form.
-use Rattle.std.proofs.Common.{◌≡◌, ◌≢◌, ◌∙◌, refl, sym, ap, subst, ℕ, suc, ◌<◌, ◌≤◌, Bool, true, false, cond, if◌then◌else◌, eqb, nat_le, nat_lt, not, ◌&&◌, ◌||◌, ◌⊎◌, inl, inr, Option, None, Some, List, [], ◌∷◌, ◌++◌, arith}
+use Rattle.std.proofs.Common.{◌≡◌, ◌∙◌, refl, sym, ap, subst, ℕ, Bool, true, false, not, ◌||◌, inl, inr, Option, None, Some, List, [], ◌∷◌, ◌++◌, arith}
 use Rattle.hl_lexer.specs.declared.terminal.Terminal.{Terminal}
 use Rattle.hl_lexer.specs.declared.terminal.Terminal.TheVariants as terminals
-use Rattle.hl_parser.specs.declared.act.Act.{Act}
 use Rattle.hl_parser.specs.declared.act.Act.TheVariants as acts
 use Rattle.hl_parser.specs.declared.symbol.Symbol.{Symbol}
 use Rattle.hl_parser.specs.declared.symbol.Symbol.TheVariants as symbols
-use Rattle.hl_parser.specs.Codes.{all_terminals, is}
-use Rattle.hl_parser.specs.Grammar.{Commas, Each, Headed, Mark, NoElse, Nothing, Numbered, Operator, Perhaps, PerhapsToken, RegisterIs, SemanticIs, SpaceIs, Spells, Step, Token, Word, first_among, first_if, first_of, is_basic, is_direction, is_element_kind, is_jump, is_raw_kind, n_args, n_attribute, n_basic, n_block, n_buffer, n_constant, n_declarator, n_direction, n_do, n_expr, n_for, n_function, n_if, n_init, n_item, n_jump, n_kind, n_local, n_member, n_param, n_primary, n_result, n_shared, n_start, n_stmt, n_struct, n_type, n_while, nth, peek, ◌or◌, ◌then◌}
-use Rattle.hl_parser.specs.Machine.{Kept, Move, Value, append_tree, begins_expression, begins_init, begins_item, begins_local, begins_param, begins_statement, begins_type, behind_kind, followed, is_control, kept, led, move_of, on_attributed, on_first, on_init, on_item, on_local, on_member, on_operand, on_optional, on_param, on_result, on_statement, on_type, perform, reads, rest_of_attribute, rest_of_buffer, rest_of_function, start, v_none, v_token, v_tree, v_trees, yields}
-use Rattle.hl_parser.specs.Trees.{Tree, a_program, an_item, a_struct, a_member, a_type, a_basic, a_declarator, a_buffer, a_kind, a_shared, a_constant, an_init, a_function, a_result, a_param, a_direction, an_attribute, a_block, a_stmt, a_local, a_start, an_if, a_for, a_while, a_do, a_jump, an_expr, a_choice, a_binary, a_unary, a_postfix, a_primary, an_args, Trees, no_trees, more_trees, Maybe, absent, present, at_of}
-use Rattle.hl_parser.proofs.Claims.{Claim, Claimed, CommasClaimed, EachClaimed, LengthsClaimed, Loops, Takes, TakesAttribute, TakesBefore, TakesProgram, always, PerhapsClaimed, PerhapsListedClaimed, append_trees, closes, ends_declarator, ends_local, ends_param, ends_start}
-use Rattle.hl_parser.proofs.Moves.{closes_no_name, if_false, if_true, never_followed, never_if, never_led, never_only, operand_never, type_never}
-use Rattle.hl_parser.proofs.Opening.{Opens, basic_token, opens, peek_mark}
+use Rattle.hl_parser.specs.Codes.{is}
+use Rattle.hl_parser.specs.Grammar.{Mark, Numbered, Perhaps, PerhapsToken, SemanticIs, Spells, Token, Word, first_among, first_if, first_of, is_direction, is_element_kind, is_raw_kind, n_attribute, n_block, n_buffer, n_constant, n_declarator, n_direction, n_expr, n_function, n_item, n_kind, n_param, n_result, n_shared, n_struct, n_type, peek}
+use Rattle.hl_parser.specs.Machine.{Kept, Value, append_tree, begins_item, begins_param, begins_type, followed, kept, move_of, on_item, on_param, on_result, on_type, rest_of_attribute, rest_of_function, no_value, tree_value, trees_value, yields}
+use Rattle.hl_parser.specs.Trees.{Tree, a_program, an_item, a_struct, a_buffer, a_kind, a_shared, a_constant, a_function, a_result, a_param, a_direction, an_attribute, Trees, no_trees, more_trees, Maybe, absent, present, at_of}
+use Rattle.hl_parser.proofs.Claims.{Claimed, CommasClaimed, EachClaimed, Loops, Takes, TakesAttribute, TakesBefore, TakesProgram, always, PerhapsListedClaimed, closes, ends_declarator, ends_param}
+use Rattle.hl_parser.proofs.Moves.{if_false, if_true, never_followed, never_if, never_led, never_only, type_never}
+use Rattle.hl_parser.proofs.Opening.{peek_mark}
 use Rattle.hl_parser.proofs.ReadExpressions.{closed, commas_close, expressions_loop}
-use Rattle.hl_parser.proofs.ReadLists.{all_appended, attributes_loop, comma_loop, each_loop, lengths_loop, none_appended}
-use Rattle.hl_parser.proofs.Runs.{NeverYields, Runs, does, followed_by, index_of, led_by, move_at, name, reads_at, rest_of, same_as, skip, yields_to}
+use Rattle.hl_parser.proofs.ReadLists.{all_appended, attributes_loop, comma_loop, each_loop}
+use Rattle.hl_parser.proofs.Runs.{NeverYields, Runs, does, followed_by, led_by, move_at, name, reads_at, rest_of, skip, yields_to}
 use Rattle.hl_parser.proofs.Shapes.{number_is}
-use Rattle.hl_parser.proofs.Terminals.{all_pass, by_every, implies, not_true}
-use Rattle.hl_parser.proofs.ReadDeclarations.{TypeToken, option_value, or_left, or_right, type_begins, type_token}
-use Rattle.hl_parser.proofs.StandsAs.{as_attribute, as_block, as_declarator, as_init, as_item, as_kind, as_member, as_param, as_result, as_type}
+use Rattle.hl_parser.proofs.Terminals.{by_every, not_true}
+use Rattle.hl_parser.proofs.ReadDeclarations.{option_value, or_left, type_begins}
+use Rattle.hl_parser.proofs.StandsAs.{as_attribute, as_block, as_declarator, as_item, as_param, as_result, as_type}
 
 -- ---- attributes
 
@@ -45,7 +44,7 @@ attribute_read at index first others from m n o p q r to bracket named open_mark
       (closed first o p c behind _ _ _
       (does (expressions_loop others p q more (ap closes (peek_mark close_mark)) _ _ _ _ (ap (λ t. move_of symbols.Expressions t (peek (rest_of q))) (peek_mark close_mark))
       (skip close_mark (skip close_bracket
-      (does (does (subst (λ ts. Runs (symbols.Attributes ∷ K) (kept (v_trees (append_tree done (an_attribute at index ts)) ∷ vs)) to w) (sym (all_appended first others)) rest)))))))));
+      (does (does (subst (λ ts. Runs (symbols.Attributes ∷ K) (kept (trees_value (append_tree done (an_attribute at index ts)) ∷ vs)) to w) (sym (all_appended first others)) rest)))))))));
 }
 
 pub attribute_begins : (tree : Tree) (from to : List Numbered) → Spells n_attribute tree from to → peek from ≡ terminals.OpenBracket
@@ -59,8 +58,8 @@ direction_token (a_direction at) from to (a, b, h) = (at, refl, h)
 direction_token tree from to h = let n = number_is tree n_direction from to h in absurd (omega arith)
 
 abbrev pub maybe_value : Maybe → Value
-maybe_value absent = v_none
-maybe_value (present tree) = v_tree tree
+maybe_value absent = no_value
+maybe_value (present tree) = tree_value tree
 
 type_no_direction : (t : Terminal) → begins_type t ≡ true → is_direction t ≡ false
 type_no_direction t e = not_true _ (by_every begins_type (λ t. not (is_direction t)) refl t e)
@@ -73,7 +72,7 @@ direction_read (present tree) from to K vs w h begins rest =
     let token = direction_token tree from to h in
     let word = token.2 in
     reads_at (acts.Here ∷ []) (symbols.Make acts.Direction ∷ []) word.2 (if_true (is_direction word.0) _ _ word.1)
-    (does (subst (λ t. Runs K (kept (v_tree t ∷ vs)) to w) token.1 rest))
+    (does (subst (λ t. Runs K (kept (tree_value t ∷ vs)) to w) token.1 rest))
 
 semantic_read : (semantic : Option ℕ) (from to : List Numbered) (K : List Symbol) (vs : List Value) (w : Option Kept) → SemanticIs semantic from to → ends_param (peek to) ≡ true → Runs K (kept (option_value semantic ∷ vs)) to w → Runs (symbols.Semantic ∷ K) (kept vs) from w
 semantic_read None from to K vs w e end rest =
@@ -85,18 +84,18 @@ semantic_behind : (semantic : Option ℕ) (from to : List Numbered) → Semantic
 semantic_behind None from to e end = ap (λ ts. ends_declarator (peek ts)) e ∙ by_every ends_param ends_declarator refl (peek to) end
 semantic_behind (Some index) from to (m, colon, named) end = ap ends_declarator (peek_mark colon)
 
-param_made : (at : ℕ) (constant : Option ℕ) (direction : Maybe) (type declarator : Tree) (semantic : Option ℕ) (to : List Numbered) (K : List Symbol) (vs : List Value) (w : Option Kept) → at ≡ first_of constant (first_if direction (at_of type)) → Runs K (kept (v_tree (a_param at constant direction type declarator semantic) ∷ vs)) to w → Runs (symbols.Make acts.Param ∷ K) (kept (option_value semantic ∷ v_tree declarator ∷ v_tree type ∷ maybe_value direction ∷ option_value constant ∷ vs)) to w
-param_made at None absent type declarator None to K vs w e rest = does (subst (λ a. Runs K (kept (v_tree (a_param a None absent type declarator None) ∷ vs)) to w) e rest)
-param_made at None absent type declarator (Some s) to K vs w e rest = does (subst (λ a. Runs K (kept (v_tree (a_param a None absent type declarator (Some s)) ∷ vs)) to w) e rest)
-param_made at None (present d) type declarator None to K vs w e rest = does (subst (λ a. Runs K (kept (v_tree (a_param a None (present d) type declarator None) ∷ vs)) to w) e rest)
-param_made at None (present d) type declarator (Some s) to K vs w e rest = does (subst (λ a. Runs K (kept (v_tree (a_param a None (present d) type declarator (Some s)) ∷ vs)) to w) e rest)
-param_made at (Some c) absent type declarator None to K vs w e rest = does (subst (λ a. Runs K (kept (v_tree (a_param a (Some c) absent type declarator None) ∷ vs)) to w) e rest)
-param_made at (Some c) absent type declarator (Some s) to K vs w e rest = does (subst (λ a. Runs K (kept (v_tree (a_param a (Some c) absent type declarator (Some s)) ∷ vs)) to w) e rest)
-param_made at (Some c) (present d) type declarator None to K vs w e rest = does (subst (λ a. Runs K (kept (v_tree (a_param a (Some c) (present d) type declarator None) ∷ vs)) to w) e rest)
-param_made at (Some c) (present d) type declarator (Some s) to K vs w e rest = does (subst (λ a. Runs K (kept (v_tree (a_param a (Some c) (present d) type declarator (Some s)) ∷ vs)) to w) e rest)
+param_made : (at : ℕ) (constant : Option ℕ) (direction : Maybe) (type declarator : Tree) (semantic : Option ℕ) (to : List Numbered) (K : List Symbol) (vs : List Value) (w : Option Kept) → at ≡ first_of constant (first_if direction (at_of type)) → Runs K (kept (tree_value (a_param at constant direction type declarator semantic) ∷ vs)) to w → Runs (symbols.Make acts.Param ∷ K) (kept (option_value semantic ∷ tree_value declarator ∷ tree_value type ∷ maybe_value direction ∷ option_value constant ∷ vs)) to w
+param_made at None absent type declarator None to K vs w e rest = does (subst (λ a. Runs K (kept (tree_value (a_param a None absent type declarator None) ∷ vs)) to w) e rest)
+param_made at None absent type declarator (Some s) to K vs w e rest = does (subst (λ a. Runs K (kept (tree_value (a_param a None absent type declarator (Some s)) ∷ vs)) to w) e rest)
+param_made at None (present d) type declarator None to K vs w e rest = does (subst (λ a. Runs K (kept (tree_value (a_param a None (present d) type declarator None) ∷ vs)) to w) e rest)
+param_made at None (present d) type declarator (Some s) to K vs w e rest = does (subst (λ a. Runs K (kept (tree_value (a_param a None (present d) type declarator (Some s)) ∷ vs)) to w) e rest)
+param_made at (Some c) absent type declarator None to K vs w e rest = does (subst (λ a. Runs K (kept (tree_value (a_param a (Some c) absent type declarator None) ∷ vs)) to w) e rest)
+param_made at (Some c) absent type declarator (Some s) to K vs w e rest = does (subst (λ a. Runs K (kept (tree_value (a_param a (Some c) absent type declarator (Some s)) ∷ vs)) to w) e rest)
+param_made at (Some c) (present d) type declarator None to K vs w e rest = does (subst (λ a. Runs K (kept (tree_value (a_param a (Some c) (present d) type declarator None) ∷ vs)) to w) e rest)
+param_made at (Some c) (present d) type declarator (Some s) to K vs w e rest = does (subst (λ a. Runs K (kept (tree_value (a_param a (Some c) (present d) type declarator (Some s)) ∷ vs)) to w) e rest)
 
 -- from the type of a parameter on
-param_rest : (at : ℕ) (constant : Option ℕ) (direction : Maybe) (type declarator : Tree) (semantic : Option ℕ) (from m n to : List Numbered) (K : List Symbol) (vs : List Value) (w : Option Kept) → at ≡ first_of constant (first_if direction (at_of type)) → Claimed n_type type from m → Claimed n_declarator declarator m n → SemanticIs semantic n to → ends_param (peek to) ≡ true → Runs K (kept (v_tree (a_param at constant direction type declarator semantic) ∷ vs)) to w →
+param_rest : (at : ℕ) (constant : Option ℕ) (direction : Maybe) (type declarator : Tree) (semantic : Option ℕ) (from m n to : List Numbered) (K : List Symbol) (vs : List Value) (w : Option Kept) → at ≡ first_of constant (first_if direction (at_of type)) → Claimed n_type type from m → Claimed n_declarator declarator m n → SemanticIs semantic n to → ends_param (peek to) ≡ true → Runs K (kept (tree_value (a_param at constant direction type declarator semantic) ∷ vs)) to w →
     Runs (symbols.Type ∷ symbols.Declarator ∷ symbols.Semantic ∷ symbols.Make acts.Param ∷ K) (kept (maybe_value direction ∷ option_value constant ∷ vs)) from w
 param_rest at constant direction type declarator semantic from m n to K vs w e ct cd has_semantic end rest =
     as_type type from m ct _ _ _
@@ -115,7 +114,7 @@ param_read at None (present d) type declarator semantic from m n o p to e is_sta
     reads_at (acts.Absent ∷ acts.Here ∷ [])
     (symbols.Make acts.Direction ∷ symbols.Type ∷ symbols.Declarator ∷ symbols.Semantic ∷ symbols.Make acts.Param ∷ []) (is_start ∙ word.2)
     (if_false (begins_type word.0) _ _ (not_true _ (by_every is_direction (λ t. not (begins_type t)) refl word.0 word.1)) ∙ if_true (is_direction word.0) _ _ word.1)
-    (does (subst (λ t. Runs (symbols.Type ∷ symbols.Declarator ∷ symbols.Semantic ∷ symbols.Make acts.Param ∷ K) (kept (v_tree t ∷ v_none ∷ vs)) n w) token.1
+    (does (subst (λ t. Runs (symbols.Type ∷ symbols.Declarator ∷ symbols.Semantic ∷ symbols.Make acts.Param ∷ K) (kept (tree_value t ∷ no_value ∷ vs)) n w) token.1
     (param_rest at None (present d) type declarator semantic n o p to K vs w e ct cd has_semantic end rest)))
 param_read at None absent type declarator semantic from m n o p to e is_start hd ct cd has_semantic = λ K vs w end rest.
     subst (λ ts. Runs (symbols.Param ∷ K) (kept vs) ts w) (sym (is_start ∙ hd))
@@ -142,7 +141,7 @@ param_never t =
     (never_led (acts.Absent ∷ acts.Absent ∷ []) (followed (on_type t) (symbols.Declarator ∷ symbols.Semantic ∷ symbols.Make acts.Param ∷ [])))
     (never_if (is_direction t) _ _ tt (never_only t terminals.Const _ tt))
 
-params_read : (params : Trees) (from m to : List Numbered) (K : List Symbol) (vs : List Value) (w : Option Kept) → PerhapsListedClaimed n_param params from m → Mark terminals.CloseParenthesis m to → Runs K (kept (v_trees params ∷ vs)) to w → Runs (symbols.Params ∷ K) (kept (v_trees no_trees ∷ vs)) from w
+params_read : (params : Trees) (from m to : List Numbered) (K : List Symbol) (vs : List Value) (w : Option Kept) → PerhapsListedClaimed n_param params from m → Mark terminals.CloseParenthesis m to → Runs K (kept (trees_value params ∷ vs)) to w → Runs (symbols.Params ∷ K) (kept (trees_value no_trees ∷ vs)) from w
 params_read no_trees from m to K vs w is_end close_mark rest = reads_at [] [] (is_end ∙ close_mark.1) refl rest
 params_read (more_trees first others) from m to K vs w (n, cf, more) close_mark rest =
     let behind : ends_param (peek n) ≡ true = commas_close n_param ends_param others n m refl more (ap ends_param (peek_mark close_mark)) in
@@ -150,7 +149,7 @@ params_read (more_trees first others) from m to K vs w (n, cf, more) close_mark 
     (if_true (begins_param (peek from)) _ _ (param_begins first from n cf.spelled)) (param_never (peek from))
     (as_param first from n cf _ _ _ behind
     (does (params_loop others n m more (ap ends_param (peek_mark close_mark)) _ _ _ _ (ap (λ t. move_of symbols.MoreParams t (peek (rest_of m))) (peek_mark close_mark))
-    (skip close_mark (subst (λ ts. Runs K (kept (v_trees ts ∷ vs)) to w) (sym (all_appended first others)) rest)))))
+    (skip close_mark (subst (λ ts. Runs K (kept (trees_value ts ∷ vs)) to w) (sym (all_appended first others)) rest)))))
 
 -- ---- results and functions
 
@@ -160,7 +159,7 @@ void_result_read at from to e = λ K vs w rest. reads_at (acts.Here ∷ []) (sym
 pub type_result_read : (at : ℕ) (type : Tree) (from to : List Numbered) → at ≡ at_of type → Claimed n_type type from to → Takes symbols.Result (a_result at (present type)) from to
 type_result_read at type from to e c = λ K vs w rest.
     followed_by symbols.Type (symbols.Make acts.TypeResult ∷ []) from (if_true (begins_type (peek from)) _ _ (type_begins type from to c.spelled)) (type_never (peek from))
-    (as_type type from to c _ _ _ (does (subst (λ a. Runs K (kept (v_tree (a_result a (present type)) ∷ vs)) to w) e rest)))
+    (as_type type from to c _ _ _ (does (subst (λ a. Runs K (kept (tree_value (a_result a (present type)) ∷ vs)) to w) e rest)))
 
 begins_result : Terminal → Bool
 begins_result t = begins_type t || is t terminals.Void
@@ -176,11 +175,11 @@ result_never t = never_if (begins_type t) _ _ (never_followed (on_type t) _) (ne
 
 -- from the name of a function on
 function_rest : (at : ℕ) (attributes : Trees) (result : Tree) (index : ℕ) (params : Trees) (block : Tree) (from m n o p to : List Numbered) (K : List Symbol) (vs : List Value) (w : Option Kept) → at ≡ first_among attributes (at_of result) → Token index terminals.Name from m → Mark terminals.OpenParenthesis m n → PerhapsListedClaimed n_param params n o → Mark terminals.CloseParenthesis o p → Claimed n_block block p to →
-    Runs (symbols.Make acts.Item ∷ K) (kept (v_tree (a_function at attributes result index params block) ∷ vs)) to w → Runs (rest_of_function ++ K) (kept (v_tree result ∷ v_trees attributes ∷ vs)) from w
+    Runs (symbols.Make acts.Item ∷ K) (kept (tree_value (a_function at attributes result index params block) ∷ vs)) to w → Runs (rest_of_function ++ K) (kept (tree_value result ∷ trees_value attributes ∷ vs)) from w
 function_rest at attributes result index params block from m n o p to K vs w e named open_mark cp close_mark cb rest =
     name named (skip open_mark (does (params_read params n o p _ _ _ cp close_mark
     (as_block block p to cb _ _ _
-    (does (subst (λ a. Runs (symbols.Make acts.Item ∷ K) (kept (v_tree (a_function a attributes result index params block) ∷ vs)) to w) e rest))))))
+    (does (subst (λ a. Runs (symbols.Make acts.Item ∷ K) (kept (tree_value (a_function a attributes result index params block) ∷ vs)) to w) e rest))))))
 
 pub function_read : (at : ℕ) (attributes : Trees) (result : Tree) (index : ℕ) (params : Trees) (block : Tree) (from m n o p q r to : List Numbered) → at ≡ first_among attributes (at_of result) → EachClaimed n_attribute attributes from m → Claimed n_result result m n → Token index terminals.Name n o → Mark terminals.OpenParenthesis o p → PerhapsListedClaimed n_param params p q → Mark terminals.CloseParenthesis q r → Claimed n_block block r to → TakesBefore always symbols.Item (symbols.Make acts.Item ∷ []) (a_function at attributes result index params block) from to
 unfolding begins_result
@@ -196,13 +195,13 @@ function_read at (more_trees first others) result index params block from m n o 
     reads_at (acts.Empty ∷ acts.Here ∷ []) (rest_of_attribute ++ symbols.Result ∷ rest_of_function) c.bracket refl
     (c.reads (symbols.Result ∷ (rest_of_function ++ K)) vs no_trees w
     (attributes_loop others l m more _ _ _ _ no_more
-    (subst (λ ts. Runs (symbols.Result ∷ (rest_of_function ++ K)) (kept (v_trees ts ∷ vs)) m w) (sym (all_appended first others))
+    (subst (λ ts. Runs (symbols.Result ∷ (rest_of_function ++ K)) (kept (trees_value ts ∷ vs)) m w) (sym (all_appended first others))
     (as_result result m n cr _ _ _ (function_rest at (more_trees first others) result index params block n o p q r to K vs w e named open_mark cp close_mark cb rest)))))
 
 -- ---- items and programs
 
 pub item_read : (at : ℕ) (item : Tree) (from to : List Numbered) → at ≡ at_of item → TakesBefore always symbols.Item (symbols.Make acts.Item ∷ []) item from to → Takes symbols.Item (an_item at item) from to
-item_read at item from to e h = λ K vs w rest. h K vs w refl (does (subst (λ a. Runs K (kept (v_tree (an_item a item) ∷ vs)) to w) e rest))
+item_read at item from to e h = λ K vs w rest. h K vs w refl (does (subst (λ a. Runs K (kept (tree_value (an_item a item) ∷ vs)) to w) e rest))
 
 kind_begins : (tree : Tree) (from to : List Numbered) → Spells n_kind tree from to → begins_item (peek from) ≡ true
 kind_begins (a_kind at absent) from to (a, b, (t, c, e)) = ap (λ ts. begins_item (peek ts)) e ∙ by_every is_raw_kind begins_item refl t c
@@ -257,5 +256,5 @@ pub program_read : (at : ℕ) (item : Tree) (items : Trees) (from m to : List Nu
 program_read at item items from m to e c more = λ w end rest.
     does (as_item item from m c _ _ _
     (does (items_loop items m to more _ _ _ _ (if_false (begins_item (peek to)) _ _ end)
-    (subst (λ ts. Runs (symbols.Make acts.Program ∷ []) (kept (v_trees ts ∷ [])) to w) (sym (all_appended item items))
-    (does (subst (λ a. Runs [] (kept (v_tree (a_program a (more_trees item items)) ∷ [])) to w) e rest))))))
+    (subst (λ ts. Runs (symbols.Make acts.Program ∷ []) (kept (trees_value ts ∷ [])) to w) (sym (all_appended item items))
+    (does (subst (λ a. Runs [] (kept (tree_value (a_program a (more_trees item items)) ∷ [])) to w) e rest))))))

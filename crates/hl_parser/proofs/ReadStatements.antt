@@ -1,24 +1,23 @@
 -- The machine reads statements, one lemma a form.
-use Rattle.std.proofs.Common.{◌≡◌, ◌≢◌, ◌∙◌, refl, sym, ap, subst, ℕ, suc, ◌<◌, ◌≤◌, Bool, true, false, cond, if◌then◌else◌, eqb, nat_le, nat_lt, not, ◌&&◌, ◌||◌, ◌⊎◌, inl, inr, Option, None, Some, List, [], ◌∷◌, ◌++◌, arith}
+use Rattle.std.proofs.Common.{◌≡◌, ◌≢◌, ◌∙◌, refl, sym, ap, subst, ℕ, Bool, true, false, not, ◌&&◌, ◌||◌, inl, inr, Option, None, Some, List, [], ◌∷◌, ◌++◌, arith}
 use Rattle.hl_lexer.specs.declared.terminal.Terminal.{Terminal}
 use Rattle.hl_lexer.specs.declared.terminal.Terminal.TheVariants as terminals
-use Rattle.hl_parser.specs.declared.act.Act.{Act}
 use Rattle.hl_parser.specs.declared.act.Act.TheVariants as acts
 use Rattle.hl_parser.specs.declared.symbol.Symbol.{Symbol}
 use Rattle.hl_parser.specs.declared.symbol.Symbol.TheVariants as symbols
-use Rattle.hl_parser.specs.Codes.{all_terminals, is}
-use Rattle.hl_parser.specs.Grammar.{Commas, Each, Headed, Mark, NoElse, Nothing, Numbered, Operator, Perhaps, PerhapsToken, RegisterIs, SemanticIs, SpaceIs, Spells, Step, Token, Word, first_among, first_if, first_of, is_basic, is_direction, is_element_kind, is_jump, is_raw_kind, n_args, n_attribute, n_basic, n_block, n_buffer, n_constant, n_declarator, n_direction, n_do, n_expr, n_for, n_function, n_if, n_init, n_item, n_jump, n_kind, n_local, n_member, n_param, n_primary, n_result, n_shared, n_start, n_stmt, n_struct, n_type, n_while, nth, peek, ◌or◌, ◌then◌}
-use Rattle.hl_parser.specs.Machine.{Kept, Move, Value, append_tree, begins_expression, begins_init, begins_item, begins_local, begins_param, begins_statement, begins_type, behind_kind, followed, is_control, kept, led, move_of, on_attributed, on_block, on_first, on_init, on_item, on_local, on_member, on_operand, on_optional, on_param, on_result, on_statement, on_type, perform, reads, rest_of_attribute, rest_of_buffer, rest_of_function, start, v_none, v_token, v_tree, v_trees, yields}
-use Rattle.hl_parser.specs.Trees.{Tree, a_program, an_item, a_struct, a_member, a_type, a_basic, a_declarator, a_buffer, a_kind, a_shared, a_constant, an_init, a_function, a_result, a_param, a_direction, an_attribute, a_block, a_stmt, a_local, a_start, an_if, a_for, a_while, a_do, a_jump, an_expr, a_choice, a_binary, a_unary, a_postfix, a_primary, an_args, Trees, no_trees, more_trees, Maybe, absent, present, at_of}
-use Rattle.hl_parser.proofs.Claims.{Claim, Claimed, CommasClaimed, EachClaimed, ElseClaimed, FirstClaimed, InitClaimed, LengthsClaimed, Loops, Takes, TakesAttribute, TakesBefore, TakesProgram, always, PerhapsClaimed, PerhapsListedClaimed, append_trees, closes, ends_declarator, ends_local, ends_param, ends_start}
+use Rattle.hl_parser.specs.Codes.{is}
+use Rattle.hl_parser.specs.Grammar.{Each, Headed, Mark, Numbered, PerhapsToken, Spells, Token, Word, first_among, first_of, is_basic, is_jump, n_attribute, n_block, n_declarator, n_do, n_expr, n_for, n_if, n_jump, n_local, n_start, n_stmt, n_type, n_while, nth, peek}
+use Rattle.hl_parser.specs.Machine.{Kept, Value, begins_expression, begins_local, begins_statement, begins_type, followed, is_control, kept, led, move_of, on_attributed, on_block, on_first, on_local, on_operand, on_statement, on_type, reads, rest_of_attribute, token_value, tree_value, trees_value, yields}
+use Rattle.hl_parser.specs.Trees.{Tree, a_declarator, a_block, a_stmt, a_local, a_start, an_if, a_for, a_while, a_do, a_jump, Trees, no_trees, more_trees, Maybe, absent, present, at_of}
+use Rattle.hl_parser.proofs.Claims.{Claimed, CommasClaimed, EachClaimed, ElseClaimed, FirstClaimed, InitClaimed, Loops, Takes, TakesBefore, always, PerhapsClaimed, append_trees, closes, ends_declarator, ends_local, ends_start}
 use Rattle.hl_parser.proofs.Moves.{closes_no_name, if_false, if_true, never_followed, never_if, never_led, never_only, operand_never, type_never}
-use Rattle.hl_parser.proofs.Opening.{Opens, basic_token, opens, peek_mark}
-use Rattle.hl_parser.proofs.ReadExpressions.{closed, commas_close, expressions_loop}
-use Rattle.hl_parser.proofs.ReadLists.{all_appended, attributes_loop, comma_loop, each_loop, lengths_loop, none_appended}
-use Rattle.hl_parser.proofs.Runs.{NeverYields, Runs, does, followed_by, index_of, led_by, move_at, name, reads_at, rest_of, same_as, skip, yields_to}
+use Rattle.hl_parser.proofs.Opening.{opens, peek_mark}
+use Rattle.hl_parser.proofs.ReadExpressions.{closed, commas_close}
+use Rattle.hl_parser.proofs.ReadLists.{all_appended, attributes_loop, comma_loop, each_loop, none_appended}
+use Rattle.hl_parser.proofs.Runs.{NeverYields, Runs, does, followed_by, led_by, move_at, reads_at, rest_of, same_as, skip, yields_to}
 use Rattle.hl_parser.proofs.Shapes.{number_is}
-use Rattle.hl_parser.proofs.Terminals.{all_pass, by_every, implies, not_true}
-use Rattle.hl_parser.proofs.ReadDeclarations.{TypeToken, option_value, or_left, or_right, type_begins, type_token}
+use Rattle.hl_parser.proofs.Terminals.{by_every, implies, not_true}
+use Rattle.hl_parser.proofs.ReadDeclarations.{option_value, or_left, type_begins, type_token}
 use Rattle.hl_parser.proofs.ReadFunctions.{attribute_begins, maybe_value}
 use Rattle.hl_parser.proofs.StandsAs.{as_attribute, as_block, as_declarator, as_init, as_jump, as_local, as_start, as_stmt, as_type}
 use Rattle.hl_parser.proofs.Terminals.{every, implied, same_is}
@@ -29,25 +28,25 @@ pub start_read : (at : ℕ) (declarator : Tree) (init : Maybe) (from m to : List
 start_read at declarator absent from m to e cd is_end = λ K vs w end rest.
     followed_by symbols.Declarator (symbols.StartInit ∷ symbols.Make acts.Start ∷ []) from refl (never_only (peek from) terminals.Name _ tt)
     (as_declarator declarator from m cd _ _ _ (ap (λ ts. ends_declarator (peek ts)) is_end ∙ by_every ends_start ends_declarator refl (peek to) end)
-    (subst (λ ts. Runs (symbols.StartInit ∷ symbols.Make acts.Start ∷ K) (kept (v_tree declarator ∷ vs)) ts w) (sym is_end)
+    (subst (λ ts. Runs (symbols.StartInit ∷ symbols.Make acts.Start ∷ K) (kept (tree_value declarator ∷ vs)) ts w) (sym is_end)
     (yields_to (acts.Absent ∷ []) to (if_false (is (peek to) terminals.Equals) _ _ (not_true _ (by_every ends_start (λ t. not (is t terminals.Equals)) refl (peek to) end)))
-    (does (subst (λ a. Runs K (kept (v_tree (a_start a declarator absent) ∷ vs)) to w) e rest)))))
+    (does (subst (λ a. Runs K (kept (tree_value (a_start a declarator absent) ∷ vs)) to w) e rest)))))
 start_read at declarator (present init) from m to e cd (n, equals, ci) = λ K vs w end rest.
     followed_by symbols.Declarator (symbols.StartInit ∷ symbols.Make acts.Start ∷ []) from refl (never_only (peek from) terminals.Name _ tt)
     (as_declarator declarator from m cd _ _ _ (ap ends_declarator (peek_mark equals))
     (reads_at [] (symbols.Init ∷ []) equals.1 refl
     (as_init init n to ci _ _ _ (by_every ends_start closes refl (peek to) end)
-    (does (subst (λ a. Runs K (kept (v_tree (a_start a declarator (present init)) ∷ vs)) to w) e rest)))))
+    (does (subst (λ a. Runs K (kept (tree_value (a_start a declarator (present init)) ∷ vs)) to w) e rest)))))
 
 starts_loop : (trees : Trees) (from to : List Numbered) → CommasClaimed n_start trees from to → ends_start (peek to) ≡ true → Loops symbols.Starts trees from to
 starts_loop = comma_loop symbols.Starts symbols.Start n_start ends_start (λ next. refl) refl as_start
 
-local_made : (at : ℕ) (constant : Option ℕ) (type : Tree) (starts : Trees) (to : List Numbered) (K : List Symbol) (vs : List Value) (w : Option Kept) → at ≡ first_of constant (at_of type) → Runs K (kept (v_tree (a_local at constant type starts) ∷ vs)) to w → Runs (symbols.Make acts.Local ∷ K) (kept (v_trees starts ∷ v_tree type ∷ option_value constant ∷ vs)) to w
-local_made at None type starts to K vs w e rest = does (subst (λ a. Runs K (kept (v_tree (a_local a None type starts) ∷ vs)) to w) e rest)
-local_made at (Some c) type starts to K vs w e rest = does (subst (λ a. Runs K (kept (v_tree (a_local a (Some c) type starts) ∷ vs)) to w) e rest)
+local_made : (at : ℕ) (constant : Option ℕ) (type : Tree) (starts : Trees) (to : List Numbered) (K : List Symbol) (vs : List Value) (w : Option Kept) → at ≡ first_of constant (at_of type) → Runs K (kept (tree_value (a_local at constant type starts) ∷ vs)) to w → Runs (symbols.Make acts.Local ∷ K) (kept (trees_value starts ∷ tree_value type ∷ option_value constant ∷ vs)) to w
+local_made at None type starts to K vs w e rest = does (subst (λ a. Runs K (kept (tree_value (a_local a None type starts) ∷ vs)) to w) e rest)
+local_made at (Some c) type starts to K vs w e rest = does (subst (λ a. Runs K (kept (tree_value (a_local a (Some c) type starts) ∷ vs)) to w) e rest)
 
 -- from the type of a local on
-local_rest : (at : ℕ) (constant : Option ℕ) (type first : Tree) (others : Trees) (from m n to : List Numbered) (K : List Symbol) (vs : List Value) (w : Option Kept) → at ≡ first_of constant (at_of type) → Claimed n_type type from m → Claimed n_start first m n → CommasClaimed n_start others n to → ends_local (peek to) ≡ true → Runs K (kept (v_tree (a_local at constant type (more_trees first others)) ∷ vs)) to w →
+local_rest : (at : ℕ) (constant : Option ℕ) (type first : Tree) (others : Trees) (from m n to : List Numbered) (K : List Symbol) (vs : List Value) (w : Option Kept) → at ≡ first_of constant (at_of type) → Claimed n_type type from m → Claimed n_start first m n → CommasClaimed n_start others n to → ends_local (peek to) ≡ true → Runs K (kept (tree_value (a_local at constant type (more_trees first others)) ∷ vs)) to w →
     Runs (symbols.Type ∷ symbols.Make acts.Empty ∷ symbols.Start ∷ symbols.Make acts.Append ∷ symbols.Starts ∷ symbols.Make acts.Local ∷ K) (kept (option_value constant ∷ vs)) from w
 local_rest at constant type first others from m n to K vs w e ct cf more end rest =
     let end_start : ends_start (peek to) ≡ true = by_every ends_local ends_start refl (peek to) end in
@@ -56,7 +55,7 @@ local_rest at constant type first others from m n to K vs w e ct cf more end res
     (does (as_start first m n cf _ _ _ behind
     (does (starts_loop others n to more end_start _ _ _ _ (if_false (is (peek to) terminals.Comma) _ _ (not_true _ (by_every ends_local (λ t. not (is t terminals.Comma)) refl (peek to) end)))
     (local_made at constant type (append_trees (more_trees first no_trees) others) to K vs w e
-    (subst (λ ts. Runs K (kept (v_tree (a_local at constant type ts) ∷ vs)) to w) (sym (all_appended first others)) rest))))))
+    (subst (λ ts. Runs K (kept (tree_value (a_local at constant type ts) ∷ vs)) to w) (sym (all_appended first others)) rest))))))
 
 pub local_read : (at : ℕ) (constant : Option ℕ) (type first : Tree) (others : Trees) (from m n o to : List Numbered) → at ≡ first_of constant (at_of type) → PerhapsToken constant terminals.Const from m → Claimed n_type type m n → Claimed n_start first n o → CommasClaimed n_start others o to → TakesBefore ends_local symbols.Local [] (a_local at constant type (more_trees first others)) from to
 local_read at (Some c) type first others from m n o to e constant ct cf more = λ K vs w end rest.
@@ -114,7 +113,7 @@ pub block_read : (at : ℕ) (statements : Trees) (from m n to : List Numbered) �
 block_read at statements from m n to brace loop close_mark = λ K vs w rest.
     reads_at (acts.Here ∷ []) (symbols.Make acts.Empty ∷ symbols.Statements ∷ symbols.Skip terminals.CloseBrace ∷ symbols.Make acts.Block ∷ []) brace refl
     (does (loop _ _ _ _ (ap (λ t. move_of symbols.Statements t (peek (rest_of n))) (peek_mark close_mark))
-    (skip close_mark (does (subst (λ ts. Runs K (kept (v_tree (a_block at ts) ∷ vs)) to w) (sym (none_appended statements)) rest)))))
+    (skip close_mark (does (subst (λ ts. Runs K (kept (tree_value (a_block at ts) ∷ vs)) to w) (sym (none_appended statements)) rest)))))
 
 -- ---- an `if` and loops
 
@@ -133,7 +132,7 @@ statement_control t next e =
 
 -- attributes in front of a word
 pub headed_read : (at : ℕ) (attributes : Trees) (index : ℕ) (word : Terminal) (from m n : List Numbered) (K : List Symbol) (vs : List Value) (w : Option Kept) → is_control word ≡ true → EachClaimed n_attribute attributes from m → Token index word m n →
-    Runs (symbols.Attributed ∷ symbols.Make acts.Part ∷ K) (kept (v_trees attributes ∷ vs)) m w → Runs (symbols.Statement ∷ K) (kept vs) from w
+    Runs (symbols.Attributed ∷ symbols.Make acts.Part ∷ K) (kept (trees_value attributes ∷ vs)) m w → Runs (symbols.Statement ∷ K) (kept vs) from w
 headed_read at no_trees index word from m n K vs w control is_start token rest =
     subst (λ ts. Runs (symbols.Statement ∷ K) (kept vs) ts w) (sym is_start)
     (led_by symbols.Attributed (acts.Empty ∷ []) (symbols.Make acts.Part ∷ []) m
@@ -145,7 +144,7 @@ headed_read at (more_trees first others) index word from m n K vs w control (l, 
     reads_at (acts.Empty ∷ acts.Here ∷ []) (rest_of_attribute ++ symbols.Attributed ∷ symbols.Make acts.Part ∷ []) c.bracket refl
     (c.reads (symbols.Attributed ∷ symbols.Make acts.Part ∷ K) vs no_trees w
     (attributes_loop others l m more _ _ _ _ no_more
-    (subst (λ ts. Runs (symbols.Attributed ∷ symbols.Make acts.Part ∷ K) (kept (v_trees ts ∷ vs)) m w) (sym (all_appended first others)) rest)))
+    (subst (λ ts. Runs (symbols.Attributed ∷ symbols.Make acts.Part ∷ K) (kept (trees_value ts ∷ vs)) m w) (sym (all_appended first others)) rest)))
 
 is_not : (t u : Terminal) → t ≢ u → is t u ≡ false
 is_not t u h = by_test (is t u) refl
@@ -161,9 +160,9 @@ else_read absent from to K vs w (is_end, no_else) rest =
 else_read (present tree) from to K vs w (m, word, c) rest =
     reads_at [] (symbols.Statement ∷ []) word.1 refl (as_stmt tree m to c _ _ _ rest)
 
-if_made : (at : ℕ) (attributes : Trees) (index : ℕ) (condition consequent : Tree) (alternative : Maybe) (to : List Numbered) (K : List Symbol) (vs : List Value) (w : Option Kept) → at ≡ first_among attributes index → Runs K (kept (v_tree (an_if at attributes condition consequent alternative) ∷ vs)) to w → Runs (symbols.Make acts.If ∷ K) (kept (maybe_value alternative ∷ v_tree consequent ∷ v_tree condition ∷ v_token index ∷ v_trees attributes ∷ vs)) to w
-if_made at attributes index condition consequent absent to K vs w e rest = does (subst (λ a. Runs K (kept (v_tree (an_if a attributes condition consequent absent) ∷ vs)) to w) e rest)
-if_made at attributes index condition consequent (present tree) to K vs w e rest = does (subst (λ a. Runs K (kept (v_tree (an_if a attributes condition consequent (present tree)) ∷ vs)) to w) e rest)
+if_made : (at : ℕ) (attributes : Trees) (index : ℕ) (condition consequent : Tree) (alternative : Maybe) (to : List Numbered) (K : List Symbol) (vs : List Value) (w : Option Kept) → at ≡ first_among attributes index → Runs K (kept (tree_value (an_if at attributes condition consequent alternative) ∷ vs)) to w → Runs (symbols.Make acts.If ∷ K) (kept (maybe_value alternative ∷ tree_value consequent ∷ tree_value condition ∷ token_value index ∷ trees_value attributes ∷ vs)) to w
+if_made at attributes index condition consequent absent to K vs w e rest = does (subst (λ a. Runs K (kept (tree_value (an_if a attributes condition consequent absent) ∷ vs)) to w) e rest)
+if_made at attributes index condition consequent (present tree) to K vs w e rest = does (subst (λ a. Runs K (kept (tree_value (an_if a attributes condition consequent (present tree)) ∷ vs)) to w) e rest)
 
 pub if_read : (at : ℕ) (attributes : Trees) (index : ℕ) (condition consequent : Tree) (alternative : Maybe) (from m n o p q r to : List Numbered) → at ≡ first_among attributes index → EachClaimed n_attribute attributes from m → Token index terminals.If m n → Mark terminals.OpenParenthesis n o → Claimed n_expr condition o p → Mark terminals.CloseParenthesis p q → Claimed n_stmt consequent q r → ElseClaimed alternative r to → TakesBefore always symbols.Statement (symbols.Make acts.Part ∷ []) (an_if at attributes condition consequent alternative) from to
 if_read at attributes index condition consequent alternative from m n o p q r to e ca word open_mark cc close_mark cs ce = λ K vs w end rest.
@@ -184,7 +183,7 @@ while_read at attributes index condition body from m n o p q to e ca word open_m
     ∷ symbols.Statement ∷ symbols.Make acts.While ∷ []) word refl
     (skip open_mark (closed condition o p cc (ap closes (peek_mark close_mark)) _ _ _
     (skip close_mark (as_stmt body q to cs _ _ _
-    (does (subst (λ a. Runs (symbols.Make acts.Part ∷ K) (kept (v_tree (a_while a attributes condition body) ∷ vs)) to w) e rest)))))))
+    (does (subst (λ a. Runs (symbols.Make acts.Part ∷ K) (kept (tree_value (a_while a attributes condition body) ∷ vs)) to w) e rest)))))))
 
 pub do_read : (at : ℕ) (attributes : Trees) (index : ℕ) (body condition : Tree) (from m n o p q r s to : List Numbered) → at ≡ first_among attributes index → EachClaimed n_attribute attributes from m → Token index terminals.Do m n → Claimed n_stmt body n o → Mark terminals.While o p → Mark terminals.OpenParenthesis p q → Claimed n_expr condition q r → Mark terminals.CloseParenthesis r s → Mark terminals.Semicolon s to → TakesBefore always symbols.Statement (symbols.Make acts.Part ∷ []) (a_do at attributes body condition) from to
 do_read at attributes index body condition from m n o p q r s to e ca word cs while_word open_mark cc close_mark semicolon = λ K vs w end rest.
@@ -195,7 +194,7 @@ do_read at attributes index body condition from m n o p q r s to e ca word cs wh
     (as_stmt body n o cs _ _ _
     (skip while_word (skip open_mark (closed condition q r cc (ap closes (peek_mark close_mark)) _ _ _
     (skip close_mark (skip semicolon
-    (does (subst (λ a. Runs (symbols.Make acts.Part ∷ K) (kept (v_tree (a_do a attributes body condition) ∷ vs)) to w) e rest)))))))))
+    (does (subst (λ a. Runs (symbols.Make acts.Part ∷ K) (kept (tree_value (a_do a attributes body condition) ∷ vs)) to w) e rest)))))))))
 
 -- the parts of the head of a `for`
 
@@ -226,15 +225,15 @@ first_read (present tree) from to K vs w (inr c) end rest =
     (if_false (begins_local (peek from) (peek (rest_of from))) _ _ opening.no_local ∙ if_true (begins_expression (peek from)) _ _ opening.begins)
     (closed tree from to c (ap closes end) _ _ _ rest)
 
-for_made : (at : ℕ) (attributes : Trees) (index : ℕ) (first condition step : Maybe) (body : Tree) (to : List Numbered) (K : List Symbol) (vs : List Value) (w : Option Kept) → at ≡ first_among attributes index → Runs K (kept (v_tree (a_for at attributes first condition step body) ∷ vs)) to w → Runs (symbols.Make acts.For ∷ K) (kept (v_tree body ∷ maybe_value step ∷ maybe_value condition ∷ maybe_value first ∷ v_token index ∷ v_trees attributes ∷ vs)) to w
-for_made at attributes index absent absent absent body to K vs w e rest = does (subst (λ a. Runs K (kept (v_tree (a_for a attributes absent absent absent body) ∷ vs)) to w) e rest)
-for_made at attributes index absent absent (present s) body to K vs w e rest = does (subst (λ a. Runs K (kept (v_tree (a_for a attributes absent absent (present s) body) ∷ vs)) to w) e rest)
-for_made at attributes index absent (present c) absent body to K vs w e rest = does (subst (λ a. Runs K (kept (v_tree (a_for a attributes absent (present c) absent body) ∷ vs)) to w) e rest)
-for_made at attributes index absent (present c) (present s) body to K vs w e rest = does (subst (λ a. Runs K (kept (v_tree (a_for a attributes absent (present c) (present s) body) ∷ vs)) to w) e rest)
-for_made at attributes index (present f) absent absent body to K vs w e rest = does (subst (λ a. Runs K (kept (v_tree (a_for a attributes (present f) absent absent body) ∷ vs)) to w) e rest)
-for_made at attributes index (present f) absent (present s) body to K vs w e rest = does (subst (λ a. Runs K (kept (v_tree (a_for a attributes (present f) absent (present s) body) ∷ vs)) to w) e rest)
-for_made at attributes index (present f) (present c) absent body to K vs w e rest = does (subst (λ a. Runs K (kept (v_tree (a_for a attributes (present f) (present c) absent body) ∷ vs)) to w) e rest)
-for_made at attributes index (present f) (present c) (present s) body to K vs w e rest = does (subst (λ a. Runs K (kept (v_tree (a_for a attributes (present f) (present c) (present s) body) ∷ vs)) to w) e rest)
+for_made : (at : ℕ) (attributes : Trees) (index : ℕ) (first condition step : Maybe) (body : Tree) (to : List Numbered) (K : List Symbol) (vs : List Value) (w : Option Kept) → at ≡ first_among attributes index → Runs K (kept (tree_value (a_for at attributes first condition step body) ∷ vs)) to w → Runs (symbols.Make acts.For ∷ K) (kept (tree_value body ∷ maybe_value step ∷ maybe_value condition ∷ maybe_value first ∷ token_value index ∷ trees_value attributes ∷ vs)) to w
+for_made at attributes index absent absent absent body to K vs w e rest = does (subst (λ a. Runs K (kept (tree_value (a_for a attributes absent absent absent body) ∷ vs)) to w) e rest)
+for_made at attributes index absent absent (present s) body to K vs w e rest = does (subst (λ a. Runs K (kept (tree_value (a_for a attributes absent absent (present s) body) ∷ vs)) to w) e rest)
+for_made at attributes index absent (present c) absent body to K vs w e rest = does (subst (λ a. Runs K (kept (tree_value (a_for a attributes absent (present c) absent body) ∷ vs)) to w) e rest)
+for_made at attributes index absent (present c) (present s) body to K vs w e rest = does (subst (λ a. Runs K (kept (tree_value (a_for a attributes absent (present c) (present s) body) ∷ vs)) to w) e rest)
+for_made at attributes index (present f) absent absent body to K vs w e rest = does (subst (λ a. Runs K (kept (tree_value (a_for a attributes (present f) absent absent body) ∷ vs)) to w) e rest)
+for_made at attributes index (present f) absent (present s) body to K vs w e rest = does (subst (λ a. Runs K (kept (tree_value (a_for a attributes (present f) absent (present s) body) ∷ vs)) to w) e rest)
+for_made at attributes index (present f) (present c) absent body to K vs w e rest = does (subst (λ a. Runs K (kept (tree_value (a_for a attributes (present f) (present c) absent body) ∷ vs)) to w) e rest)
+for_made at attributes index (present f) (present c) (present s) body to K vs w e rest = does (subst (λ a. Runs K (kept (tree_value (a_for a attributes (present f) (present c) (present s) body) ∷ vs)) to w) e rest)
 
 pub for_read : (at : ℕ) (attributes : Trees) (index : ℕ) (first condition step : Maybe) (body : Tree) (from m n o p q r s t to : List Numbered) → at ≡ first_among attributes index → EachClaimed n_attribute attributes from m → Token index terminals.For m n → Mark terminals.OpenParenthesis n o → FirstClaimed first o p → Mark terminals.Semicolon p q → PerhapsClaimed n_expr condition q r → Mark terminals.Semicolon r s → (u : List Numbered) → PerhapsClaimed n_expr step s t → Mark terminals.CloseParenthesis t u → Claimed n_stmt body u to → TakesBefore always symbols.Statement (symbols.Make acts.Part ∷ []) (a_for at attributes first condition step body) from to
 for_read at attributes index first condition step body from m n o p q r s t to e ca word open_mark cf semicolon cc second_semicolon u cs close_mark cb = λ K vs w end rest.
@@ -259,7 +258,7 @@ statement_jump t next e f =
     ∙ if_false (is t terminals.Return) _ _ f
     ∙ if_true (is_jump t) _ _ e
 
-return_read : (at : ℕ) (value : Maybe) (from m to : List Numbered) (K : List Symbol) (vs : List Value) (w : Option Kept) → Token at terminals.Return from m → PerhapsClaimed n_expr value m to → ends_local (peek to) ≡ true → Runs (symbols.Skip terminals.Semicolon ∷ symbols.Make acts.Part ∷ K) (kept (v_tree (a_jump at value) ∷ vs)) to w → Runs (symbols.Statement ∷ K) (kept vs) from w
+return_read : (at : ℕ) (value : Maybe) (from m to : List Numbered) (K : List Symbol) (vs : List Value) (w : Option Kept) → Token at terminals.Return from m → PerhapsClaimed n_expr value m to → ends_local (peek to) ≡ true → Runs (symbols.Skip terminals.Semicolon ∷ symbols.Make acts.Part ∷ K) (kept (tree_value (a_jump at value) ∷ vs)) to w → Runs (symbols.Statement ∷ K) (kept vs) from w
 return_read at absent from m to K vs w e c end rest =
     reads_at (acts.Here ∷ []) (symbols.Optional ∷ symbols.Make acts.Jump ∷ symbols.Skip terminals.Semicolon ∷ symbols.Make acts.Part ∷ []) e refl
     (optional_read absent m to _ _ _ c (by_every ends_local closes refl (peek to) end) (does rest))
@@ -270,7 +269,7 @@ return_read at (present value) from m to K vs w e c end rest =
 pub jump_read : (at : ℕ) (from to : List Numbered) → Word at is_jump from to → TakesBefore ends_local symbols.Statement (symbols.Skip terminals.Semicolon ∷ symbols.Make acts.Part ∷ []) (a_jump at absent) from to
 jump_read at from to (t, c, e) = λ K vs w end rest. by_test K vs w end rest (is t terminals.Return) refl
   where
-    by_test : (K : List Symbol) (vs : List Value) (w : Option Kept) → ends_local (peek to) ≡ true → Runs (symbols.Skip terminals.Semicolon ∷ symbols.Make acts.Part ∷ K) (kept (v_tree (a_jump at absent) ∷ vs)) to w → (b : Bool) → is t terminals.Return ≡ b → Runs (symbols.Statement ∷ K) (kept vs) from w
+    by_test : (K : List Symbol) (vs : List Value) (w : Option Kept) → ends_local (peek to) ≡ true → Runs (symbols.Skip terminals.Semicolon ∷ symbols.Make acts.Part ∷ K) (kept (tree_value (a_jump at absent) ∷ vs)) to w → (b : Bool) → is t terminals.Return ≡ b → Runs (symbols.Statement ∷ K) (kept vs) from w
     by_test K vs w end rest true f = return_read at absent from to to K vs w (e ∙ ap (λ x. nth at x ∷ to) (same_is t terminals.Return f)) refl end rest
     by_test K vs w end rest false f =
         reads_at (acts.Here ∷ []) (symbols.Make acts.Absent ∷ symbols.Make acts.Jump ∷ symbols.Skip terminals.Semicolon ∷ symbols.Make acts.Part ∷ []) e
@@ -283,8 +282,8 @@ block_begins : (tree : Tree) (from to : List Numbered) → Spells n_block tree f
 block_begins (a_block at statements) from to (a, b, (m, e, h)) = ap peek e
 block_begins tree from to h = let n = number_is tree n_block from to h in absurd (omega arith)
 
-part_made : (at : ℕ) (part : Tree) (to : List Numbered) (K : List Symbol) (vs : List Value) (w : Option Kept) → at ≡ at_of part → Runs K (kept (v_tree (a_stmt at (present part)) ∷ vs)) to w → Runs (symbols.Make acts.Part ∷ K) (kept (v_tree part ∷ vs)) to w
-part_made at part to K vs w e rest = does (subst (λ a. Runs K (kept (v_tree (a_stmt a (present part)) ∷ vs)) to w) e rest)
+part_made : (at : ℕ) (part : Tree) (to : List Numbered) (K : List Symbol) (vs : List Value) (w : Option Kept) → at ≡ at_of part → Runs K (kept (tree_value (a_stmt at (present part)) ∷ vs)) to w → Runs (symbols.Make acts.Part ∷ K) (kept (tree_value part ∷ vs)) to w
+part_made at part to K vs w e rest = does (subst (λ a. Runs K (kept (tree_value (a_stmt a (present part)) ∷ vs)) to w) e rest)
 
 pub empty_statement_read : (at : ℕ) (from to : List Numbered) → Token at terminals.Semicolon from to → Takes symbols.Statement (a_stmt at absent) from to
 empty_statement_read at from to e = λ K vs w rest. reads_at (acts.Here ∷ []) (symbols.Make acts.Nothing ∷ []) e refl (does rest)

@@ -1,5 +1,5 @@
 -- Runs of the machine, step by step: where the rest runs to an outcome, so does the whole.
-use Rattle.std.proofs.Common.{◌≡◌, ◌∙◌, refl, sym, ap, subst, ℕ, Bool, true, false, cond, List, [], ◌∷◌, ◌++◌, Option, None, Some, append_assoc}
+use Rattle.std.proofs.Common.{◌≡◌, ◌∙◌, refl, sym, ap, subst, ℕ, List, [], ◌∷◌, ◌++◌, Option, append_assoc}
 use Rattle.hl_lexer.specs.declared.terminal.Terminal.{Terminal}
 use Rattle.hl_lexer.specs.declared.terminal.Terminal.TheVariants as terminals
 use Rattle.hl_parser.specs.declared.act.Act.{Act}
@@ -8,7 +8,7 @@ use Rattle.hl_parser.specs.declared.symbol.Symbol.{Symbol}
 use Rattle.hl_parser.specs.declared.symbol.Symbol.TheVariants as symbols
 use Rattle.hl_parser.specs.Grammar.{Mark, Numbered, Token, nth, peek}
 use Rattle.hl_parser.proofs.Terminals.{only_itself}
-use Rattle.hl_parser.specs.Machine.{Fed, Kept, Move, reads, yields, refuses, gone, kept, after_move, after_token, at_end, feed, followed, led, move_of, perform, perform_all, run}
+use Rattle.hl_parser.specs.Machine.{Fed, Kept, Move, reads, yields, refuses, after_move, after_token, at_end, feed, followed, led, move_of, perform, perform_all, run}
 
 -- the index of the first token, and the tokens behind it
 abbrev pub index_of : List Numbered → ℕ

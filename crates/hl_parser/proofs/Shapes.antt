@@ -1,7 +1,7 @@
 -- Which production a tree is, where it is spelled as one.
-use Rattle.std.proofs.Common.{ℕ, ◌≤◌, List, Option, None, Some}
+use Rattle.std.proofs.Common.{ℕ, ◌≤◌, List, None, Some}
 use Rattle.hl_parser.specs.Grammar.{Numbered, Spells, last_for, n_or, n_product}
-use Rattle.hl_parser.specs.Trees.{Tree, a_program, an_item, a_struct, a_member, a_type, a_basic, a_declarator, a_buffer, a_kind, a_shared, a_constant, an_init, a_function, a_result, a_param, a_direction, an_attribute, a_block, a_stmt, a_local, a_start, an_if, a_for, a_while, a_do, a_jump, an_expr, a_choice, a_binary, a_unary, a_postfix, a_primary, an_args, Trees, no_trees, more_trees, Maybe, absent, present}
+use Rattle.hl_parser.specs.Trees.{Tree, a_program, an_item, a_struct, a_member, a_type, a_basic, a_declarator, a_buffer, a_kind, a_shared, a_constant, an_init, a_function, a_result, a_param, a_direction, an_attribute, a_block, a_stmt, a_local, a_start, an_if, a_for, a_while, a_do, a_jump, an_expr, a_choice, a_binary, a_unary, a_postfix, a_primary, an_args, no_trees, more_trees, absent, present}
 
 -- the number of the production
 abbrev pub number_of : Tree → ℕ

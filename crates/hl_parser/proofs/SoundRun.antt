@@ -1,17 +1,13 @@
 -- What the machine reads to its end is a program.
-use Rattle.std.proofs.Common.{◌≡◌, ◌≢◌, ◌∙◌, refl, sym, ap, subst, ℕ, zero, suc, ◌+◌, ◌<◌, ◌≤◌, Bool, true, false, Option, None, Some, List, [], ◌∷◌, ◌++◌, length, take, drop, arith}
+use Rattle.std.proofs.Common.{◌≡◌, refl, subst, ℕ, Option, None, Some, List, [], ◌∷◌, arith}
 use Rattle.hl_lexer.specs.declared.terminal.Terminal.{Terminal}
 use Rattle.hl_lexer.specs.declared.terminal.Terminal.TheVariants as terminals
-use Rattle.hl_parser.specs.declared.act.Act.TheVariants as acts
 use Rattle.hl_parser.specs.declared.symbol.Symbol.{Symbol}
-use Rattle.hl_parser.specs.declared.symbol.Symbol.TheVariants as symbols
 use Rattle.hl_parser.specs.Grammar.{Nothing, Numbered, Spells, SpellsProgram, n_program, nth, numbered, peek}
-use Rattle.hl_parser.specs.Machine.{Fed, Kept, Move, after_move, after_token, at_end, fed, feed, gone, kept, move_of, perform_all, reads, refused, refuses, run, spent, start, v_tree, yields}
+use Rattle.hl_parser.specs.Machine.{Fed, Kept, Move, after_move, after_token, at_end, fed, feed, kept, move_of, perform_all, reads, refused, refuses, run, spent, start, yields}
 use Rattle.hl_parser.specs.Trees.{Tree, a_program, at_of, more_trees}
-use Rattle.hl_parser.proofs.Complete.{complete}
 use Rattle.hl_parser.proofs.SoundStatements.{sound_move}
-use Rattle.hl_parser.proofs.Soundness.{end_at}
-use Rattle.hl_parser.proofs.Words.{Sound, SoundMove, Split, Word, Words, words_cons, words_split}
+use Rattle.hl_parser.proofs.Words.{SoundMove, Word, Words, words_cons, words_split}
 
 -- what the symbols stand for, where what comes of a token is known
 abbrev pub FedSound : List Symbol → ℕ → Terminal → Fed → Type 0

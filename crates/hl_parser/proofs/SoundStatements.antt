@@ -1,22 +1,19 @@
 -- The moves on statements are sound, and so is every move.
-use Rattle.std.proofs.Common.{◌≡◌, ◌≢◌, ◌∙◌, refl, sym, ap, subst, ℕ, suc, ◌-◌, ◌<◌, ◌≤◌, Bool, true, false, cond, if◌then◌else◌, eqb, nat_le, nat_lt, not, ◌&&◌, ◌||◌, ◌⊎◌, ⊎_elim, inl, inr, Option, None, Some, List, [], ◌∷◌, ◌++◌, arith}
-use Rattle.std.proofs.lemmas.Bool.{and_parts, eqb-true, leb-false, leb-true, ltb-false, ltb-true, or_cases}
+use Rattle.std.proofs.Common.{◌≡◌, ◌≢◌, ◌∙◌, refl, sym, ap, ℕ, true, false, if◌then◌else◌, inl, inr, None, Some, List, [], ◌∷◌, ◌++◌, arith}
 use Rattle.hl_lexer.specs.declared.terminal.Terminal.{Terminal}
 use Rattle.hl_lexer.specs.declared.terminal.Terminal.TheVariants as terminals
 use Rattle.hl_parser.specs.declared.act.Act.TheVariants as acts
 use Rattle.hl_parser.specs.declared.symbol.Symbol.{Symbol}
 use Rattle.hl_parser.specs.declared.symbol.Symbol.TheVariants as symbols
-use Rattle.hl_parser.specs.Codes.{all_terminals, is}
-use Rattle.hl_parser.specs.Grammar.{AttributeArguments, Commas, Each, ElseIs, FirstIs, InitIs, Lengths, Listed, Mark, Nothing, Numbered, Perhaps, PerhapsListed, RegisterIs, SemanticIs, SpaceIs, Spells, Step, first_among, first_if, first_of, is_assign, is_basic, is_direction, is_element_kind, is_jump, is_prefix, is_raw_kind, is_step, is_word, last_for, n_args, n_attribute, n_block, n_buffer, n_choice, n_constant, n_declarator, n_direction, n_do, n_expr, n_for, n_function, n_if, n_init, n_item, n_jump, n_kind, n_local, n_member, n_or, n_param, n_postfix, n_primary, n_product, n_result, n_shared, n_start, n_stmt, n_struct, n_type, n_unary, n_while, nth, operator_of, peek, ◌or◌, ◌then◌}
-use Rattle.hl_parser.specs.Machine.{Move, begins_expression, begins_init, begins_item, begins_local, begins_param, begins_statement, begins_type, behind_kind, is_control, is_repeating, joins_to, level_of, move_of, on_args, on_arg_list, on_attribute_arguments, on_attributed, on_attributes, on_block, on_declarator, on_declarators, on_direction, on_else, on_expressions, on_first, on_init, on_inits, on_item, on_items, on_lengths, on_local, on_member, on_members, on_method_arguments, on_more_params, on_operand, on_operator, on_optional, on_param, on_params, on_parenthesis, on_register, on_result, on_semantic, on_space, on_start, on_start_init, on_starts, on_statement, on_statements, on_tail, on_type, rest_of_attribute, rest_of_buffer, rest_of_function}
-use Rattle.hl_parser.specs.Trees.{Tree, a_program, an_item, a_struct, a_member, a_type, a_basic, a_declarator, a_buffer, a_kind, a_shared, a_constant, an_init, a_function, a_result, a_param, a_direction, an_attribute, a_block, a_stmt, a_local, a_start, an_if, a_for, a_while, a_do, a_jump, an_expr, a_choice, a_binary, a_unary, a_postfix, a_primary, an_args, Trees, no_trees, more_trees, Maybe, absent, present, at_of}
-use Rattle.hl_parser.proofs.Moves.{Joins, if_false, if_true, joins_all, joins_cases, joins_none, joins_one, level_assign, level_repeating, level_step, operand_never}
-use Rattle.hl_parser.proofs.Opening.{last_of_expression}
-use Rattle.hl_parser.proofs.Terminals.{by_every, not_true, same_is}
-use Rattle.hl_parser.proofs.Words.{AttributedWord, BracesEnd, Control, OperandWord, ParenthesisWord, SomeMaybe, SomeOption, SomeTrees, Sound, Spelled, TailWord, Word, Words, sound_as, sound_followed, sound_if, sound_is, sound_known, sound_led, sound_only, sound_reads, sound_refuses, sound_yields}
+use Rattle.hl_parser.specs.Codes.{is}
+use Rattle.hl_parser.specs.Grammar.{Commas, Each, ElseIs, FirstIs, InitIs, Mark, Numbered, Perhaps, PerhapsListed, Spells, Step, first_among, is_jump, n_block, n_declarator, n_do, n_expr, n_for, n_if, n_jump, n_local, n_start, n_stmt, n_type, n_while, nth, ◌or◌, ◌then◌}
+use Rattle.hl_parser.specs.Machine.{begins_expression, begins_local, begins_statement, begins_type, is_control, move_of, on_arg_list, on_attributed, on_block, on_declarator, on_else, on_first, on_local, on_operand, on_optional, on_start, on_start_init, on_starts, on_statement, on_statements, on_type, rest_of_attribute}
+use Rattle.hl_parser.specs.Trees.{Tree, a_block, a_stmt, a_local, a_start, an_if, a_for, a_while, a_do, a_jump, no_trees, more_trees, absent, present, at_of}
+use Rattle.hl_parser.proofs.Moves.{operand_never}
+use Rattle.hl_parser.proofs.Words.{AttributedWord, Control, OperandWord, SomeMaybe, SomeTrees, Sound, Spelled, Word, Words, sound_as, sound_followed, sound_if, sound_is, sound_led, sound_only, sound_reads, sound_yields}
 use Rattle.hl_parser.proofs.ReadStatements.{local_never}
 use Rattle.hl_parser.proofs.Soundness.{end_at, sound_args, sound_declarator, sound_declarators, sound_expressions, sound_lengths, sound_member, sound_members, sound_method_arguments, sound_operand, sound_parenthesis, sound_tail, sound_type}
-use Rattle.hl_parser.proofs.SoundDeclarations.{AttributesParts, attributes_parts, sound_attribute_arguments, sound_attributes, sound_direction, sound_init, sound_inits, sound_item, sound_items, sound_more_params, sound_param, sound_params, sound_register, sound_result, sound_semantic, sound_space}
+use Rattle.hl_parser.proofs.SoundDeclarations.{attributes_parts, sound_attribute_arguments, sound_attributes, sound_direction, sound_init, sound_inits, sound_item, sound_items, sound_more_params, sound_param, sound_params, sound_register, sound_result, sound_semantic, sound_space}
 
 -- ---- locals
 

@@ -16,7 +16,7 @@ use Rattle.hl_parser.specs.declared.symbol.Symbol.{Symbol}
 use Rattle.hl_parser.specs.declared.values.Values.{Values}
 use Rattle.hl_parser.specs.Held.{Did, Holds, Performed}
 use Rattle.hl_parser.proofs.Runs.{NeverYields, perform-append}
-use Rattle.hl_parser.specs.Machine.{Kept, Move, begins_statement, followed, on_statement, on_statements, perform, perform_all, reads, refuses, yields}
+use Rattle.hl_parser.specs.Machine.{Kept, Move, begins_statement, followed, on_statement, on_statements, perform_all, reads, refuses, yields}
 
 pub pushed : (mine mine' symbols before : List Symbol) (left : ℕ) (d : Symbol) → 0 < left → left ≤ length symbols → mine' ≡ mine ++ get_or symbols (left - 1) d ∷ [] → reverse mine ≡ drop left symbols ++ before → reverse mine' ≡ drop (left - 1) symbols ++ before
 pushed mine mine' symbols before left d some within e h =

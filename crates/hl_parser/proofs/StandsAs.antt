@@ -1,11 +1,11 @@
 -- A tree that stands as a production is read as one.
-use Rattle.std.proofs.Common.{ℕ, ◌≤◌, List, [], ◌∷◌, arith}
+use Rattle.std.proofs.Common.{List, [], ◌∷◌, arith}
 use Rattle.hl_lexer.specs.declared.terminal.Terminal.TheVariants as terminals
 use Rattle.hl_parser.specs.declared.act.Act.TheVariants as acts
 use Rattle.hl_parser.specs.declared.symbol.Symbol.TheVariants as symbols
-use Rattle.hl_parser.specs.Grammar.{Numbered, Spells, n_args, n_attribute, n_block, n_buffer, n_constant, n_declarator, n_do, n_for, n_function, n_if, n_init, n_item, n_jump, n_kind, n_local, n_member, n_param, n_result, n_shared, n_start, n_stmt, n_struct, n_type, n_while}
+use Rattle.hl_parser.specs.Grammar.{Numbered, n_args, n_attribute, n_block, n_buffer, n_constant, n_declarator, n_do, n_for, n_function, n_if, n_init, n_item, n_jump, n_kind, n_local, n_member, n_param, n_result, n_shared, n_start, n_stmt, n_struct, n_type, n_while}
 use Rattle.hl_parser.specs.Machine.{behind_kind}
-use Rattle.hl_parser.specs.Trees.{Tree, a_program, an_item, a_struct, a_member, a_type, a_basic, a_declarator, a_buffer, a_kind, a_shared, a_constant, an_init, a_function, a_result, a_param, a_direction, an_attribute, a_block, a_stmt, a_local, a_start, an_if, a_for, a_while, a_do, a_jump, an_expr, a_choice, a_binary, a_unary, a_postfix, a_primary, an_args, at_of}
+use Rattle.hl_parser.specs.Trees.{Tree, an_item, a_struct, a_member, a_type, a_declarator, a_buffer, a_kind, a_shared, a_constant, an_init, a_function, a_result, a_param, an_attribute, a_block, a_stmt, a_local, a_start, an_if, a_for, a_while, a_do, a_jump, an_args, at_of}
 use Rattle.hl_parser.proofs.Claims.{Claimed, Takes, TakesAttribute, TakesBefore, always, closes, ends_declarator, ends_local, ends_param, ends_start}
 use Rattle.hl_parser.proofs.Shapes.{number_is}
 

@@ -1,9 +1,8 @@
 -- A tree more at the end of a list.
-use Rattle.std.proofs.Common.{◌≡◌, ◌∙◌, refl, ap, sym, List, [], ◌∷◌, ◌++◌}
+use Rattle.std.proofs.Common.{◌≡◌, refl, ap, List, [], ◌∷◌, ◌++◌}
 use Rattle.hl_parser.specs.declared.tree.Tree.{Tree}
 use Rattle.hl_parser.specs.Machine.{append_tree}
-use Rattle.hl_parser.specs.Trees.{depth, depths, more_trees}
-use Rattle.hl_parser.specs.Trees as plain
+use Rattle.hl_parser.specs.Trees.{more_trees}
 use Rattle.hl_parser.specs.Views.{plain_of, plain_trees}
 
 pub plain_append : (ts : List Tree) (t : Tree) → plain_trees (ts ++ (t ∷ [])) ≡ append_tree (plain_trees ts) (plain_of t)

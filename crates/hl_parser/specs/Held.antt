@@ -9,16 +9,12 @@ use Rattle.hl_parser.specs.declared.parser.Outcome.TheVariants.{Reads, Yields, R
 use Rattle.hl_parser.specs.declared.step.Fed.{Fed}
 use Rattle.hl_parser.specs.declared.step.Fed.TheVariants.{Read, Spent, Refused}
 use Rattle.hl_parser.specs.Parts.{depth_of, value_of}
-use Rattle.std.specs.declared.result.Result.{Result}
-use Rattle.std.specs.declared.result.Result.TheVariants.{Ok, Err}
-use Rattle.hl_parser.specs.declared.fault.ParseFault.{ParseFault}
-use Rattle.hl_parser.specs.declared.fault.ParseFault.TheVariants.{Syntax, TooDeep, Memory}
 use Rattle.hl_parser.specs.declared.tree.Tree.{Tree}
 use Rattle.hl_parser.specs.Trees.{depth}
 use Rattle.hl_parser.specs.Trees as plain
 use Rattle.hl_parser.specs.Views.{plain_of}
 use Rattle.hl_parser.specs.Machine as machine
-use Rattle.hl_parser.specs.Machine.{Kept, Move, Value, gone, kept, perform_all, reads, refuses, yields, v_none, v_token, v_tree, v_trees}
+use Rattle.hl_parser.specs.Machine.{Kept, Move, Value, gone, kept, perform_all, reads, refuses, yields, no_value, token_value, tree_value, trees_value}
 
 -- the values as the machine sees them, the last one first
 abbrev pub values_of : List held.Value → List Value
@@ -59,12 +55,14 @@ FedIs (machine.spent values) after Spent = Holds after.values values
 FedIs machine.refused after Refused = Unit {0}
 FedIs outcome after result = ⊥
 
--- what the values are in the end: the tree, or a fault where the tree is too deep
-abbrev pub Finishes : Result Tree ParseFault → plain.Tree → Type 0
-Finishes (Ok found) tree = (plain_of found ≡ tree) × (depth tree ≤ 64)
-Finishes (Err TooDeep) tree = 64 < depth tree
-Finishes (Err Memory) tree = ⊥
-Finishes (Err (Syntax at)) tree = ⊥
+-- one tree alone was read
+abbrev pub HoldsOneTree : Values → Type 0
+HoldsOneTree mine = (tree : plain.Tree) × Holds mine (kept (tree_value tree ∷ []))
+
+-- what the values are in the end: the tree, or none where the tree is too deep
+abbrev pub Finishes : Option Tree → plain.Tree → Type 0
+Finishes (Some found) tree = (plain_of found ≡ tree) × (depth tree ≤ 64)
+Finishes None tree = 64 < depth tree
 
 -- an act made the values, or none are kept any more
 abbrev pub Makes : Kept → Bool → List held.Value → Type 0

@@ -1,5 +1,5 @@
 -- The plain tree of a tree.
-use Rattle.std.specs.Prelude.{ℕ, List, [], ◌∷◌, map, Option, None, Some}
+use Rattle.std.specs.Prelude.{List, [], ◌∷◌, map, Option, None, Some}
 use Rattle.hl_parser.specs.declared.tree.Tree.{Tree, Tree-F, fold-Tree}
 use Rattle.hl_parser.specs.Trees.{Trees, no_trees, more_trees, Maybe, absent, present, a_basic, a_binary, a_block, a_buffer, a_choice, a_constant, a_declarator, a_direction, a_do, a_for, a_function, a_jump, a_kind, a_local, a_member, a_param, a_postfix, a_primary, a_program, a_result, a_shared, a_start, a_stmt, a_struct, a_type, a_unary, a_while, an_args, an_attribute, an_expr, an_if, an_init, an_item}
 use Rattle.hl_parser.specs.Trees as plain

@@ -15,29 +15,29 @@ use hl_lexer::Terminal;
 
 impl Parser {
     /// An expression of at least a level.
-    pub(crate) fn on_operand(&mut self, look: Look, k: u8) -> Result<Outcome, NoMemory>
-        ensures { IfOk result (λ outcome. Did (on_operand k look.terminal look.next) look.at self.old self.new outcome) }
+    pub(crate) fn on_operand(&mut self, look: Look, least: u8) -> Result<Outcome, NoMemory>
+        ensures { IfOk result (λ outcome. Did (on_operand least look.terminal look.next) look.at self.old self.new outcome) }
     {
         match look.terminal {
             Terminal::Name if look.next == Terminal::OpenParenthesis => self.reads(
                 look,
                 &[Act::Here],
-                &[Symbol::Args, Symbol::Make(Act::Call), Symbol::Tail(42, k)],
+                &[Symbol::Args, Symbol::Make(Act::Call), Symbol::Tail(42, least)],
             ),
-            _ => self.other_operand(look, k),
+            _ => self.other_operand(look, least),
         }
     }
 
     /// An expression of at least a level that begins with no call.
-    pub(crate) fn other_operand(&mut self, look: Look, k: u8) -> Result<Outcome, NoMemory>
-        ensures { IfOk result (λ outcome. Did (other_operand k look.terminal) look.at self.old self.new outcome) }
+    pub(crate) fn other_operand(&mut self, look: Look, least: u8) -> Result<Outcome, NoMemory>
+        ensures { IfOk result (λ outcome. Did (other_operand least look.terminal) look.at self.old self.new outcome) }
     {
         match look.terminal {
-            Terminal::OpenParenthesis => self.reads(look, &[Act::Here], &[Symbol::Parenthesis(k)]),
+            Terminal::OpenParenthesis => self.reads(look, &[Act::Here], &[Symbol::Parenthesis(least)]),
             terminal if is_word(terminal) => self.reads(
                 look,
                 &[Act::Here],
-                &[Symbol::Make(Act::Word), Symbol::Tail(42, k)],
+                &[Symbol::Make(Act::Word), Symbol::Tail(42, least)],
             ),
             terminal if is_basic(terminal) => self.reads(
                 look,
@@ -46,7 +46,7 @@ impl Parser {
                     Symbol::Make(Act::Basic),
                     Symbol::Args,
                     Symbol::Make(Act::Constructor),
-                    Symbol::Tail(42, k),
+                    Symbol::Tail(42, least),
                 ],
             ),
             terminal if is_prefix(terminal) => self.reads(
@@ -55,7 +55,7 @@ impl Parser {
                 &[
                     Symbol::Operand(40),
                     Symbol::Make(Act::Unary),
-                    Symbol::Tail(40, k),
+                    Symbol::Tail(40, least),
                 ],
             ),
             _ => Ok(Outcome::Refuses),
@@ -63,8 +63,8 @@ impl Parser {
     }
 
     /// What stands behind an opening parenthesis.
-    pub(crate) fn on_parenthesis(&mut self, look: Look, k: u8) -> Result<Outcome, NoMemory>
-        ensures { IfOk result (λ outcome. Did (on_parenthesis k look.terminal look.next) look.at self.old self.new outcome) }
+    pub(crate) fn on_parenthesis(&mut self, look: Look, least: u8) -> Result<Outcome, NoMemory>
+        ensures { IfOk result (λ outcome. Did (on_parenthesis least look.terminal look.next) look.at self.old self.new outcome) }
     {
         if is_basic(look.terminal) && look.next == Terminal::CloseParenthesis {
             self.reads(
@@ -75,7 +75,7 @@ impl Parser {
                     Symbol::Skip(Terminal::CloseParenthesis),
                     Symbol::Operand(40),
                     Symbol::Make(Act::Cast),
-                    Symbol::Tail(40, k),
+                    Symbol::Tail(40, least),
                 ],
             )
         } else {
@@ -85,7 +85,7 @@ impl Parser {
                 &[
                     Symbol::Skip(Terminal::CloseParenthesis),
                     Symbol::Make(Act::Parentheses),
-                    Symbol::Tail(42, k),
+                    Symbol::Tail(42, least),
                 ],
             )?;
             self.on_operand(look, 27)
@@ -93,20 +93,20 @@ impl Parser {
     }
 
     /// The operators behind an operand.
-    pub(crate) fn on_tail(&mut self, look: Look, production: u8, k: u8) -> Result<Outcome, NoMemory>
-        ensures { IfOk result (λ outcome. Did (on_tail production k look.terminal) look.at self.old self.new outcome) }
+    pub(crate) fn on_tail(&mut self, look: Look, production: u8, least: u8) -> Result<Outcome, NoMemory>
+        ensures { IfOk result (λ outcome. Did (on_tail production least look.terminal) look.at self.old self.new outcome) }
     {
         let level = level_of(look.terminal);
-        if k <= level && level <= joins_to(production) {
-            self.on_operator(look, k)
+        if least <= level && level <= joins_to(production) {
+            self.on_operator(look, least)
         } else {
             self.yields(look, &[])
         }
     }
 
     /// An operator behind an operand.
-    pub(crate) fn on_operator(&mut self, look: Look, k: u8) -> Result<Outcome, NoMemory>
-        ensures { IfOk result (λ outcome. Did (on_operator k look.terminal) look.at self.old self.new outcome) }
+    pub(crate) fn on_operator(&mut self, look: Look, least: u8) -> Result<Outcome, NoMemory>
+        ensures { IfOk result (λ outcome. Did (on_operator least look.terminal) look.at self.old self.new outcome) }
     {
         match look.terminal {
             Terminal::Dot => self.reads(
@@ -116,7 +116,7 @@ impl Parser {
                     Symbol::Name,
                     Symbol::MethodArguments,
                     Symbol::Make(Act::Field),
-                    Symbol::Tail(41, k),
+                    Symbol::Tail(41, least),
                 ],
             ),
             Terminal::OpenBracket => self.reads(
@@ -126,13 +126,13 @@ impl Parser {
                     Symbol::Operand(27),
                     Symbol::Skip(Terminal::CloseBracket),
                     Symbol::Make(Act::Index),
-                    Symbol::Tail(41, k),
+                    Symbol::Tail(41, least),
                 ],
             ),
             Terminal::PlusPlus | Terminal::MinusMinus => self.reads(
                 look,
                 &[Act::Here],
-                &[Symbol::Make(Act::Step), Symbol::Tail(41, k)],
+                &[Symbol::Make(Act::Step), Symbol::Tail(41, least)],
             ),
             Terminal::Question => self.reads(
                 look,
@@ -142,7 +142,7 @@ impl Parser {
                     Symbol::Skip(Terminal::Colon),
                     Symbol::Operand(29),
                     Symbol::Make(Act::Choice),
-                    Symbol::Tail(29, k),
+                    Symbol::Tail(29, least),
                 ],
             ),
             terminal if is_assign(terminal) => self.reads(
@@ -151,16 +151,16 @@ impl Parser {
                 &[
                     Symbol::Operand(27),
                     Symbol::Make(Act::Assignment),
-                    Symbol::Tail(27, k),
+                    Symbol::Tail(27, least),
                 ],
             ),
-            _ => self.on_repeating(look, k),
+            _ => self.on_repeating(look, least),
         }
     }
 
     /// An operator that repeats.
-    fn on_repeating(&mut self, look: Look, k: u8) -> Result<Outcome, NoMemory>
-        ensures { IfOk result (λ outcome. Did (on_repeating k look.terminal) look.at self.old self.new outcome) }
+    fn on_repeating(&mut self, look: Look, least: u8) -> Result<Outcome, NoMemory>
+        ensures { IfOk result (λ outcome. Did (on_repeating least look.terminal) look.at self.old self.new outcome) }
     {
         let level = operator_of(look.terminal);
         if level == 0 {
@@ -172,7 +172,7 @@ impl Parser {
             &[
                 Symbol::Operand(level + 1),
                 Symbol::Make(Act::Binary(level)),
-                Symbol::Tail(level, k),
+                Symbol::Tail(level, least),
             ],
         )
     }

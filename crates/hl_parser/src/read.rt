@@ -50,19 +50,17 @@ fn read(alloc: Global, tokens: &[Token]) -> Result<Tree, ParseFault>
     ensures fault { IfErr result (λ fault. IsFault (terminals_of tokens.now) fault) }
 {
     let mut parser = Parser::new(alloc)?;
+    let mut next = terminal_at(tokens, 0);
     for at in 0..tokens.len() {
-        let look = Look {
-            at,
-            terminal: terminal_at(tokens, at),
-            next: terminal_at(tokens, at + 1),
-        };
-        match parser.feed(look)? {
+        let terminal = next;
+        next = terminal_at(tokens, at + 1);
+        match parser.feed(Look { at, terminal, next })? {
             Fed::Read => {}
             _ => return Err(ParseFault::Syntax { at }),
         }
     }
     match parser.feed(END)? {
-        Fed::Spent => parser.values.finish(),
+        Fed::Spent => parser.values.finish().ok_or(ParseFault::TooDeep),
         _ => Err(ParseFault::Syntax { at: tokens.len() }),
     }
 }

@@ -100,9 +100,8 @@ pub(crate) fn put(
     if depth > MOST_DEPTH {
         return Ok(false);
     }
-    let part = Part::Tree(Boxed::new(alloc, tree)?);
-    values.push(Value { part, depth })?;
-    Ok(true)
+    let tree = Boxed::new(alloc, tree)?;
+    put_part(values, Part::Tree(tree), depth)
 }
 
 /// Puts a value on the others.

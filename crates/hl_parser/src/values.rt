@@ -1,13 +1,13 @@
 //! What is read so far.
 
 ghost use Rattle.std.specs.Prelude.{◌≡◌, ℕ, [], ◌∷◌, OnOk};
-ghost use Rattle.hl_parser.specs.Held.{Finishes, Holds, Performed};
-ghost use Rattle.hl_parser.specs.Machine.{kept, v_tree};
+ghost use Rattle.hl_parser.specs.Held.{Finishes, Holds, HoldsOneTree, Performed};
+ghost use Rattle.hl_parser.specs.Machine.{kept, tree_value};
 ghost use Rattle.hl_parser.specs.Parts.{value_of};
 ghost use Rattle.hl_parser.specs.Trees as plain;
+ghost use Rattle.hl_parser.specs.Views.{plain_of};
 
 use crate::act::Act;
-use crate::fault::ParseFault;
 use crate::make::make;
 use crate::parts::{Part, Value};
 use crate::tree::Tree;
@@ -54,30 +54,30 @@ impl Values {
         Ok(())
     }
 
-    /// The tree, where it alone is read.
-    pub(crate) fn finish(self) -> Result<Tree, ParseFault>
-        ensures { (tree : plain.Tree) → Holds self (kept (v_tree tree ∷ [])) → Finishes result tree }
+    /// The tree that alone is read, unless it is too deep.
+    pub(crate) fn finish(self) -> Option<Tree>
+        requires { HoldsOneTree self }
+        ensures { (tree : plain.Tree) → Holds self (kept (tree_value tree ∷ [])) → Finishes result tree }
     {
-        let Some(mut values) = self.kept else {
-            return Err(ParseFault::TooDeep);
-        };
+        let mut values = self.kept?;
         match values.pop() {
-            Some(value) => tree_of(value),
-            None => Err(ParseFault::Memory),
+            Some(value) => Some(tree_of(value)),
+            None => unreachable!(),
         }
     }
 }
 
 /// The tree that a value is.
-fn tree_of(value: Value) -> Result<Tree, ParseFault>
-    ensures { (tree : plain.Tree) → value_of value.part ≡ v_tree tree → Finishes result tree }
+fn tree_of(value: Value) -> Tree
+    requires { (tree : plain.Tree) × (value_of value.part ≡ tree_value tree) }
+    ensures { tree_value (plain_of result) ≡ value_of value.part }
 {
     let Value {
         part,
         depth: _depth,
     } = value;
     match part {
-        Part::Tree(tree) => Ok(tree.into_inner()),
-        _ => Err(ParseFault::Memory),
+        Part::Tree(tree) => tree.into_inner(),
+        _ => unreachable!(),
     }
 }

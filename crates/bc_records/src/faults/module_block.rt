@@ -1,6 +1,6 @@
 //! A walk over the block MODULE.
 
-ghost use Rattle.std.specs.Prelude.{◌≡◌, suc, ◌+◌, ◌<◌, ◌^◌, ◌==◌, [], IfOk, OnOk, get_or, length, map};
+ghost use Rattle.std.specs.Prelude.{◌≡◌, None, suc, ◌+◌, ◌<◌, ◌^◌, ◌==◌, [], IfOk, OnOk, get_or, length, map};
 ghost use Rattle.bc_stream.specs.Blocks.{Contents, a_block, append, no_more, parts_contents};
 ghost use Rattle.bc_records.specs.Codes.{symbols_block};
 ghost use Rattle.bc_records.specs.Entries.{Entry, block_count, entries_in, entry as an_entry};
@@ -163,6 +163,19 @@ fn module_part(
     inside_block(tables, bodies, marks, progress.bodies, number, inner)
 }
 
+/// The number that follows a block of MODULE without a fault and those in it. Only a body has blocks in it.
+fn number_behind(number: u32, block: &BlockTree) -> u32
+    ensures { (known : Known) (before : Contents) → first_fault (module_inside known before block.now.id number (parts_contents block.now.parts)) ≡ None → number + suc (block_count (parts_contents block.now.parts)) < 2 ^ 32 → result ≡ number + suc (block_count (parts_contents block.now.parts)) }
+{
+    match block.id {
+        TYPES_BLOCK => number.saturating_add(1),
+        CONSTANTS_BLOCK => number.saturating_add(1),
+        METADATA_BLOCK => number.saturating_add(1),
+        SYMBOLS_BLOCK => number.saturating_add(1),
+        _ => after_block(number, block),
+    }
+}
+
 /// Goes on where no place of MODULE has a fault.
 fn module_parts(
     tables: &Tables,
@@ -198,7 +211,7 @@ fn module_parts(
             Part::Block(inner) => {
                 module_part(tables, bodies, marks, progress, next, inner)?;
                 progress = behind_block(progress, inner.id);
-                next = after_block(next, inner);
+                next = number_behind(next, inner);
             }
         }
     }

@@ -57,6 +57,17 @@ fn module_behind(seen: bool, id: u32) -> bool
     seen || id == MODULE_BLOCK
 }
 
+/// The number that follows a block and those in it, where more blocks are left.
+fn number_behind(left: usize, number: u32, block: &BlockTree) -> u32
+    ensures { 0 < left → number + suc (block_count (parts_contents block.now.parts)) < 2 ^ 32 → result ≡ number + suc (block_count (parts_contents block.now.parts)) }
+{
+    if left > 0 {
+        after_block(number, block)
+    } else {
+        number
+    }
+}
+
 /// Goes on where no place of these outermost blocks has a fault.
 pub fn outer_faults(alloc: Global, blocks: &[BlockTree]) -> Result<(), Stop>
     requires { block_count (contents_of blocks.now) < 2 ^ 32 }
@@ -65,10 +76,12 @@ pub fn outer_faults(alloc: Global, blocks: &[BlockTree]) -> Result<(), Stop>
     free_at(unless(has_module(blocks), MISSING), 0, 0)?;
     let mut seen = false;
     let mut number: u32 = 0;
+    let mut left = blocks.len();
     for block in blocks {
         outer_part(alloc, seen, number, block)?;
         seen = module_behind(seen, block.id);
-        number = after_block(number, block);
+        left -= 1;
+        number = number_behind(left, number, block);
     }
     Ok(())
 }

@@ -1,6 +1,6 @@
-use Rattle.std.proofs.Common.{◌≡◌, ◌∙◌, sym, ap, subst, ◌∷◌, [], ◌++◌, IfOk, arith}
+use Rattle.std.proofs.Common.{◌∙◌, sym, ap, subst, ◌∷◌, [], ◌++◌, IfOk, arith}
 use Rattle.hl_parser.specs.Held.{Makes, values_of}
-use Rattle.hl_parser.specs.Machine.{append_tree, kept, v_trees}
+use Rattle.hl_parser.specs.Machine.{kept, trees_value}
 use Rattle.hl_parser.specs.Trees.{depths}
 use Rattle.hl_parser.specs.Views.{plain_of, plain_trees}
 use Rattle.hl_parser.proofs.Deep.{depths-append}
@@ -22,5 +22,5 @@ returns c =
     let grown = ap plain_trees (c.in_ok-push.ensures.ok ∙ ap (λ t. ts ++ (t ∷ [])) c.into_inner.ensures) ∙ plain_append ts t in
     let rest = values_of c.take_trees.new.values in
     subst (λ k. IfOk c.put_part.result (λ made. Makes k made c.put_part.new.values))
-    (sym (c.in-Some.ensures _ ∙ (c.in-Some-take_trees.ensures _ ∙ ap (λ ts. kept (v_trees ts ∷ rest)) (sym grown))))
+    (sym (c.in-Some.ensures _ ∙ (c.in-Some-take_trees.ensures _ ∙ ap (λ ts. kept (trees_value ts ∷ rest)) (sym grown))))
     c.put_part.ensures

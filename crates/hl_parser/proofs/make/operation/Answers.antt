@@ -1,4 +1,4 @@
-use Rattle.std.proofs.Common.{◌≡◌, ◌∙◌, sym, ap, ℕ, arith}
+use Rattle.std.proofs.Common.{◌≡◌, ◌∙◌, sym, ap, arith}
 use Rattle.hl_parser.specs.Trees.{a_binary}
 use Rattle.hl_parser.specs.Views.{plain_of}
 use Rattle.hl_parser.proofs.Plain.{plain-Or, plain-And, plain-Bitor, plain-Bitxor, plain-Bitand, plain-Equal, plain-Less, plain-Shift, plain-Sum, plain-Product}

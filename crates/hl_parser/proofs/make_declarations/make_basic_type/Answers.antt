@@ -1,11 +1,9 @@
-use Rattle.std.proofs.Common.{◌≡◌, ◌∙◌, sym, ap, subst, Option, None, Some, IfOk, arith}
-use Rattle.hl_parser.specs.declared.act.Act.TheVariants as acts
-use Rattle.hl_parser.specs.Grammar as grammar
+use Rattle.std.proofs.Common.{◌∙◌, sym, ap, subst, Some, IfOk, arith}
 use Rattle.hl_parser.specs.Held.{Makes, values_of}
-use Rattle.hl_parser.specs.Machine.{act_on, put}
+use Rattle.hl_parser.specs.Machine.{put}
 use Rattle.hl_parser.specs.Trees.{a_type, no_trees}
 use Rattle.hl_parser.specs.Trees as plain
-use Rattle.hl_parser.specs.Views.{plain_maybe, plain_of, plain_trees}
+use Rattle.hl_parser.specs.Views.{plain_maybe, plain_of}
 use Rattle.hl_parser.proofs.Plain.{plain-Type}
 use Rattle.hl_parser.proofs.make_declarations.make_basic_type.Goals as goal
 

@@ -4,15 +4,16 @@ use Rattle.bc_stream.specs.Blocks.{parts_contents}
 use Rattle.bc_stream.proofs.BlockLemmas.{block_more, entry_more}
 use Rattle.bc_records.specs.declared.faults.progress.Progress.{Progress}
 use Rattle.bc_records.specs.Entries.{entry, entries_in, block_count}
-use Rattle.bc_records.specs.FaultSearch.{fault_at, first_kind}
+use Rattle.bc_records.specs.FaultSearch.{fault_at, first_fault, first_kind}
 use Rattle.bc_records.specs.FaultSites.{Table}
 use Rattle.bc_records.specs.KnownTables.{known_by}
 use Rattle.bc_records.specs.ModuleProgress.{HasCome, MarksBefore, behind_code, behind_id}
-use Rattle.bc_records.specs.RecordFaults.{is_complete, module_table}
+use Rattle.bc_records.specs.RecordFaults.{is_complete, module_heads, module_inside, module_table}
 use Rattle.bc_records.specs.RecordKinds.{module_kinds, kind_unless}
 use Rattle.bc_records.proofs.FaultWalk.{past, past-none, Walked, walked-start, walked-record, walked-block, found-record, found-block, whole_fault, told-exit, told-same, at-end, block-room}
 use Rattle.bc_records.proofs.FaultCounts.{count-block, count-entry}
 use Rattle.bc_records.proofs.FaultTables.{module_part_fault}
+use Rattle.bc_records.proofs.FaultFlat.{second-none}
 use Rattle.bc_records.proofs.FaultModules.{marks-record, come-record, come-block, count-bodies, bodies-limit}
 use Rattle.bc_records.proofs.faults.module_block.module_parts.Goals as goal
 use Rattle.bc_records.proofs.faults.module_block.module_parts.Goals.{in-Entry+in_ok-free_at-in-Entry, in-Block+in_ok-module_part-in-Block}
@@ -115,7 +116,16 @@ loop-part-preserved c =
                 (subst (λ d. HasCome d (behind_id c.loop-part.progress b.id)) (sym more) (come-block (past parts i) c.loop-part.progress b.id (parts_contents b.parts) inv.come));
             marked = subst (MarksBefore (past parts (i + 1))) (sym w.marks-is)
                 (subst (λ d. MarksBefore d w.module_part.new.marks) (sym more) (w.in_ok-module_part-in-Block.ensures.marked (past parts i) inv.marked));
-            numbered = omega (arith, w.next-is, counted, inv.numbered, w.after_block-next.ensures (omega (arith, inv.numbered, room, c.requires.room)));
+            numbered = omega (
+              arith,
+              w.next-is,
+              counted,
+              inv.numbered,
+              w.number_behind-next.ensures known (past parts i)
+                  (second-none (fault_at c.loop-part.next 0 (first_kind (module_heads known (past parts i) b.id))) (first_fault (module_inside known (past parts i) b.id c.loop-part.next (parts_contents b.parts)))
+                  (w.in_ok-module_part-in-Block.ensures.told (past parts i) inv.come inv.marked))
+                  (omega (arith, inv.numbered, room, c.requires.room)),
+            );
             at_limit = omega (arith, w.at-is, inv.at_limit);
             bodies_limit = omega (arith, ap (λ (p : Progress). p.bodies) same, bodies-limit c.loop-part.progress b.id, inv.bodies_limit);
           }

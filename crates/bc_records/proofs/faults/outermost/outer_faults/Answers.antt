@@ -13,12 +13,13 @@ pub loop-block-init : goal.loop-block-init
 loop-block-init c = record {
   walked = outer-start c.args.blocks.now;
   seen = ap (has_block module_block) contents_of-none;
-  numbered = sym (ap block_count contents_of-none);
+  left = omega arith;
+  numbered = λ more. sym (ap block_count contents_of-none);
 }
 
 pub outer_part-requires : goal.outer_part-requires
 outer_part-requires c =
-    omega (arith, c.requires, c.loop-block.invariant.numbered, outer-room c.args.blocks.now c.loop-block.block-index c.block-item.result c.loop-block-test.true c.block-item.is)
+    omega (arith, c.requires, (c.loop-block.invariant.numbered c.loop-block-test.true), outer-room c.args.blocks.now c.loop-block.block-index c.block-item.result c.loop-block-test.true c.block-item.is)
 
 -- there is a MODULE
 missing : (first : Option ℕ) (blocks : Contents) (has : Bool) → has ≡ has_block module_block blocks → first ≡ first_kind (kind_unless has 1) → fault_at 0 0 first ≡ None →
@@ -37,7 +38,7 @@ returns-in_err-outer_part c =
     c.from_residual-in_err-outer_part.ensures.1
     (λ f is. or_else-none head (outer_rest no_more (contents_of blocks)) (missing c.unless.result (contents_of blocks) c.has_module.result c.has_module.ensures c.unless.ensures c.in_ok-free_at.ensures)
     ∙ outer-found blocks i b c.loop-block-test.true c.block-item.is c.loop-block.invariant.walked f
-    (ap (λ n. outer_fault (outer_past blocks i) n b.id (parts_contents b.parts)) (sym c.loop-block.invariant.numbered) ∙ is))
+    (ap (λ n. outer_fault (outer_past blocks i) n b.id (parts_contents b.parts)) (sym (c.loop-block.invariant.numbered c.loop-block-test.true)) ∙ is))
     (c.in_err-outer_part.ensures (outer_past blocks i) c.loop-block.invariant.seen)
 
 pub loop-block-preserved : goal.loop-block-preserved
@@ -48,15 +49,16 @@ loop-block-preserved c =
     let room = outer-room blocks i b c.loop-block-test.true c.block-item.is in
     record {
       walked = outer-more blocks i b c.loop-block-test.true c.block-item.is c.loop-block.invariant.walked
-          (ap (λ n. outer_fault (outer_past blocks i) n b.id (parts_contents b.parts)) (sym c.loop-block.invariant.numbered)
+          (ap (λ n. outer_fault (outer_past blocks i) n b.id (parts_contents b.parts)) (sym (c.loop-block.invariant.numbered c.loop-block-test.true))
           ∙ c.in_ok-outer_part.ensures (outer_past blocks i) c.loop-block.invariant.seen);
       seen = outer-seen blocks i b c.loop-block-test.true c.block-item.is
           ∙ (ap (λ t. t || (b.id == module_block)) c.loop-block.invariant.seen ∙ sym c.module_behind-seen.ensures);
-      numbered = omega (
+      left = omega (arith, c.loop-block.invariant.left);
+      numbered = λ more. omega (
         arith,
         outer-count blocks i b c.loop-block-test.true c.block-item.is,
-        c.loop-block.invariant.numbered,
-        c.after_block-number.ensures (omega (arith, c.requires, room, c.loop-block.invariant.numbered)),
+        (c.loop-block.invariant.numbered c.loop-block-test.true),
+        c.number_behind-number.ensures (omega (arith, more, c.loop-block.invariant.left, c.loop-block-test.true)) (omega (arith, c.requires, room, (c.loop-block.invariant.numbered c.loop-block-test.true))),
       );
     }
 

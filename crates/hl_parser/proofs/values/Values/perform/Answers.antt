@@ -1,4 +1,4 @@
-use Rattle.std.proofs.Common.{◌≡◌, ◌∙◌, sym, ap, subst}
+use Rattle.std.proofs.Common.{sym, subst}
 use Rattle.hl_parser.specs.Held.{IsHeld}
 use Rattle.hl_parser.specs.Machine.{perform}
 use Rattle.hl_parser.proofs.Deep.{stays_lost}

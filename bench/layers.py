@@ -1,0 +1,129 @@
+"""Times the lexer, and the lexer with the parser behind it, on the sources of sources.py."""
+from dataclasses import dataclass
+
+from measure import instructions, memory_ratio, peak, seconds, shown
+from sources import DEEPEST, WIDEST, average, dense, tokens_of
+
+MOST_BYTES = 1048576
+MOST_TOKENS = 262144
+# the average text of each size, the largest last
+HALVINGS = range(6, -1, -1)
+LAYERS = ['lex', 'parse']
+
+# what the layers have to reach on the largest average text; the rest are ratios
+SPEED = {'lex': 20, 'parse': 8}
+INSTRUCTIONS = {'lex': 150, 'parse': 400}
+DOUBLED = 2.3
+OVER_AVERAGE = 3
+
+
+@dataclass
+class Timed:
+    """How long a layer takes on a source, and how many instructions, where callgrind is installed."""
+    path: object
+    size: int
+    tokens: int
+    took: float
+    counted: int | None
+
+    def speed(self):
+        return self.size / self.took / 1e6
+
+    def per_byte(self):
+        return None if self.counted is None else self.counted / self.size
+
+    def over(self, other):
+        """How much longer it takes for each token than another, by instructions where they are known."""
+        if self.counted is None or other.counted is None:
+            return self.took / self.tokens / (other.took / other.tokens)
+        return self.counted / self.tokens / (other.counted / other.tokens)
+
+
+class Judge:
+    """Prints what missed a target, and knows whether anything did."""
+
+    def __init__(self):
+        self.missed = []
+
+    def wants(self, name, value, most):
+        if value is not None and value > most:
+            self.missed.append(f'{name}: {value:.2f}, and at most {most} is asked')
+
+
+def timed(program, layer, path, source, runs):
+    words = [program, layer]
+    return Timed(path, len(source), tokens_of(source), seconds(words, path, runs), instructions(words, path))
+
+
+def doubled(program, layer, half, whole):
+    """The time over that of half the size. Where it misses the target both are timed again, one beside the other: a
+    time that something else on the machine has lengthened isn't one of the program."""
+    words = [program, layer]
+    for _ in range(20):
+        if whole.took <= DOUBLED * half.took:
+            break
+        for one in (half, whole):
+            one.took = min(one.took, seconds(words, one.path, 1))
+    return whole.took / half.took
+
+
+def row(shape, layer, one, memory, ratio):
+    print(f'{shape:>15} {layer:>6} {one.size:>8} {one.tokens:>7} {1000 * one.took:>8.2f} {one.speed():>7.2f}'
+          f' {shown(one.per_byte(), "{:.0f}"):>10}'
+          f' {shown(None if one.counted is None else one.counted / one.tokens, "{:.0f}"):>11}'
+          f' {shown(memory, "{:.1f}"):>11} {shown(ratio, "{:.2f}"):>7}', flush=True)
+
+
+def head(last):
+    print(f'{"shape":>15} {"layer":>6} {"bytes":>8} {"tokens":>7} {"ms":>8} {"MB/s":>7} {"instr/byte":>10}'
+          f' {"instr/token":>11} {"memory/size":>11} {last:>7}')
+
+
+def show_average(program, folder, idle, judge):
+    """Prints the rows of the average text in all sizes. What the layers take on the largest."""
+    largest = {}
+    head('doubled')
+    for halving in HALVINGS:
+        source = average(MOST_BYTES >> halving, MOST_TOKENS >> halving)
+        path = folder / f'average-{halving}.hlsl'
+        path.write_bytes(source)
+        for layer in LAYERS:
+            half = largest.get(layer)
+            whole = largest[layer] = timed(program, layer, path, source, 10)
+            ratio = None if half is None else doubled(program, layer, half, whole)
+            judge.wants(f'{layer}, {whole.size} bytes, time over that of half the size', ratio, DOUBLED)
+            row('average', layer, whole, memory_ratio([program, layer], path, idle), ratio)
+    for layer, one in largest.items():
+        judge.wants(f'{layer}, instructions a byte', one.per_byte(), INSTRUCTIONS[layer])
+        judge.wants(f'{layer}, seconds for {SPEED[layer]} MB', SPEED[layer] / one.speed(), 1)
+    return largest
+
+
+def show_others(program, folder, idle, largest, judge):
+    """Prints the rows of the other texts: for each token none takes much longer than the average text."""
+    print()
+    head('over it')
+    for shape, make in ({'dense': dense} | DEEPEST | WIDEST).items():
+        source = make(MOST_BYTES, MOST_TOKENS)
+        path = folder / 'other.hlsl'
+        path.write_bytes(source)
+        for layer in LAYERS:
+            one = timed(program, layer, path, source, 3)
+            ratio = one.over(largest[layer])
+            judge.wants(f'{layer}, {shape}, a token over that of the average text', ratio, OVER_AVERAGE)
+            row(shape, layer, one, memory_ratio([program, layer], path, idle), ratio)
+
+
+def show(program, folder):
+    """Prints the tables of the layers. Whether each target is met."""
+    judge = Judge()
+    nothing = folder / 'nothing.hlsl'
+    nothing.write_bytes(b'')
+    idle = peak([program, 'lex'], nothing)
+    largest = show_average(program, folder, idle, judge)
+    show_others(program, folder, idle, largest, judge)
+    print(f'\naims: lex {SPEED["lex"]} MB/s and {INSTRUCTIONS["lex"]} instructions a byte, parse {SPEED["parse"]} and'
+          f' {INSTRUCTIONS["parse"]}, doubled {DOUBLED}, a token over that of the average text {OVER_AVERAGE}')
+    for line in judge.missed:
+        print(f'missed: {line}')
+    return not judge.missed

@@ -155,6 +155,22 @@ fn keeps_at_most_64_levels_and_reads_on(rt: HostRuntime) -> Result<(), Fail> {
 }
 
 #[test]
+fn counts_each_operator_of_a_chain(rt: HostRuntime) -> Result<(), Fail> {
+    for (ones, expected) in [(63, None), (64, Some(ParseFault::TooDeep))] {
+        let mut text = vec![in rt.alloc(); b' '; 0]?;
+        text.extend_from_slice(b"void f(){1")?;
+        for _ in 1..ones {
+            text.extend_from_slice(b"+1")?;
+        }
+        text.extend_from_slice(b";}")?;
+        if text.len() < 300000 {
+            assert_eq!(rt; fault(&rt, &text)?, expected, "{ones}");
+        }
+    }
+    Ok(())
+}
+
+#[test]
 fn has_its_law() {
     laws::at_most_one_tree();
 }

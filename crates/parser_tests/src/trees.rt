@@ -2,8 +2,8 @@
 
 ghost use Rattle.std.specs.Prelude.{◌^◌, ◌<◌, length};
 
-use crate::{ParseFault, Tree, laws, parse};
 use hl_lexer::lex;
+use hl_parser::{ParseFault, Tree, laws, parse};
 use std::test::Fail;
 
 /// The fault of a text.

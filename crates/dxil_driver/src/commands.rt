@@ -12,13 +12,15 @@ ghost use Rattle.dxil_driver.specs.Tool.{Cuts, FailsNotes, FailsOutput, GivesAll
 ghost use Rattle.dxil_driver.specs.declared.command.Command.{Command};
 ghost use Rattle.dxil_driver.specs.declared.refusal.Refusal.{Refusal};
 
-use crate::checker::check;
+use crate::checker::check_keeping;
 use crate::command::Command;
 use crate::compiler::compile;
 use crate::refusal::Refusal;
 use crate::status::Status;
 use base_core::{Bytes, Sink, Source, read_whole, write_whole};
+use bc_stream::no_blocks;
 use std::alloc::Global;
+use std::mem;
 
 /// What is printed for a container that passes.
 fn ok() -> &'static [u8]
@@ -54,6 +56,8 @@ fn compile_input(alloc: Global, text: &[u8]) -> Result<Bytes, Refusal>
 }
 
 /// What is printed for a container.
+///
+/// What was read stays in memory: the tool ends next, and to free it piece by piece takes long.
 fn check_input(alloc: Global, bytes: &[u8]) -> Result<Bytes, Refusal>
     requires { length bytes.now ≤ most_container }
     ensures gives { IfOk result (λ text. Gives Command.Check bytes.now text) }
@@ -61,8 +65,11 @@ fn check_input(alloc: Global, bytes: &[u8]) -> Result<Bytes, Refusal>
     ensures accepted { OnOk result (¬ IsRefusedText Command.Check bytes.now) }
     ensures complete { Accepts Command.Check bytes.now → IfErr result (λ refusal. refusal ≡ Refusal.Memory) }
 {
-    check(alloc, bytes)?;
+    let mut blocks = no_blocks(alloc);
+    let checked = check_keeping(alloc, bytes, &mut blocks)?;
     let text = Bytes::from_slice(alloc, ok())?;
+    mem::forget(checked);
+    mem::forget(blocks);
     Ok(text)
 }
 

@@ -4,6 +4,9 @@ struct Particle {
     int3 position, velocity;
     uint flags;
     bool2 marks[4], corners[2][3];
+    bool3 inside;
+    bool4 neighbours;
+    int2 tile;
 };
 
 struct Cell {

@@ -1,12 +1,14 @@
 pub mod Assembled
+pub mod Chosen
+pub mod ChosenOnce
 pub mod Containers
 pub mod EmittedFacts
 pub mod EmittedListed
 pub mod EmittedMetadata
 pub mod EmittedWhole
 pub mod Failing
+pub mod Matches
 pub mod OneAnswer
-pub mod OneWord
 pub mod Parts
 pub mod Pushes
 pub mod Recognised
@@ -15,3 +17,4 @@ pub mod Scanned
 pub mod Statements
 pub mod StoresLane
 pub mod WordPlaces
+pub mod Words

@@ -153,18 +153,18 @@ statements_count name [] = refl
 statements_count name (store ∷ stores) = omega (arith, statements_count name stores)
 
 -- the tokens apart from the statements' are 24 with a buffer, so at most `most_statements` statements fit
-few_statements : (name : List ℕ) (x y z : ℕ) (stores : List LiteralStore) → length (tokens_of (record { buffer = Some name; threads = x ∷ y ∷ z ∷ []; stores = stores })) ≤ most_tokens → length stores ≤ most_statements
+few_statements : (name : List ℕ) (x y z : ℕ) (stores : List LiteralStore) → length (tokens_of (record { entry = codes "main"; buffer = Some name; threads = x ∷ y ∷ z ∷ []; stores = stores })) ≤ most_tokens → length stores ≤ most_statements
 few_statements name x y z stores few =
     omega (arith, statements_count name stores, length-append (flat_map (statement_tokens name) stores) (close_brace ∷ []))
 
-few_tokens : (name : List ℕ) (x y z : ℕ) (stores : List LiteralStore) → length stores ≤ most_statements → length (tokens_of (record { buffer = Some name; threads = x ∷ y ∷ z ∷ []; stores = stores })) ≤ most_tokens
+few_tokens : (name : List ℕ) (x y z : ℕ) (stores : List LiteralStore) → length stores ≤ most_statements → length (tokens_of (record { entry = codes "main"; buffer = Some name; threads = x ∷ y ∷ z ∷ []; stores = stores })) ≤ most_tokens
 few_tokens name x y z stores few =
     omega (arith, statements_count name stores, length-append (flat_map (statement_tokens name) stores) (close_brace ∷ []))
 
 -- ---- the stores
 
 stores_found : (buffer : Option (List ℕ)) (x y z : ℕ) (stores : List LiteralStore) (text after : List ℕ)
-    → HasBuffer buffer stores → length (tokens_of (record { buffer = buffer; threads = x ∷ y ∷ z ∷ []; stores = stores })) ≤ most_tokens
+    → HasBuffer buffer stores → length (tokens_of (record { entry = codes "main"; buffer = buffer; threads = x ∷ y ∷ z ∷ []; stores = stores })) ≤ most_tokens
     → Begins text (statements_tokens buffer stores) after → IsCut after (close_brace ∷ []) → (named : (name : List ℕ) → buffer ≡ Some name → IsWord name)
     → stores_at buffer text ≡ (stores, after)
 stores_found None x y z stores text after has few b end named = rw (has, b) refl
@@ -180,8 +180,8 @@ name_word (Some other) text after name b e =
 -- ---- the whole
 
 parts_found : (buffer : Option (List ℕ)) (x y z : ℕ) (stores : List LiteralStore) (text : List ℕ)
-    → IsFirstForm text (record { buffer = buffer; threads = x ∷ y ∷ z ∷ []; stores = stores })
-    → form_at text ≡ Some (record { buffer = buffer; threads = x ∷ y ∷ z ∷ []; stores = stores })
+    → IsFirstForm text (record { entry = codes "main"; buffer = buffer; threads = x ∷ y ∷ z ∷ []; stores = stores })
+    → form_at text ≡ Some (record { entry = codes "main"; buffer = buffer; threads = x ∷ y ∷ z ∷ []; stores = stores })
 unfolding form_at head_at
 parts_found buffer x y z stores text is =
     let threads = threads_tokens (x ∷ y ∷ z ∷ []) in
@@ -198,8 +198,8 @@ parts_found buffer x y z stores text is =
     rw (declared, sized, opened, stored, ended) refl
 
 threads_found_all : (buffer : Option (List ℕ)) (threads : List ℕ) (stores : List LiteralStore) (text : List ℕ)
-    → IsFirstForm text (record { buffer = buffer; threads = threads; stores = stores })
-    → form_at text ≡ Some (record { buffer = buffer; threads = threads; stores = stores })
+    → IsFirstForm text (record { entry = codes "main"; buffer = buffer; threads = threads; stores = stores })
+    → form_at text ≡ Some (record { entry = codes "main"; buffer = buffer; threads = threads; stores = stores })
 threads_found_all buffer [] stores text is = absurd is.threads
 threads_found_all buffer (x ∷ []) stores text is = absurd is.threads
 threads_found_all buffer (x ∷ y ∷ []) stores text is = absurd is.threads
@@ -208,18 +208,20 @@ threads_found_all buffer (x ∷ y ∷ z ∷ w ∷ others) stores text is = absur
 
 -- a text of the first form is read as it
 pub form_found : (text : List ℕ) (form : FirstForm) → IsFirstForm text form → form_at text ≡ Some form
-form_found text form is = threads_found_all form.buffer form.threads form.stores text is
+form_found text form is =
+    let plain : IsFirstForm text (record { entry = codes "main"; buffer = form.buffer; threads = form.threads; stores = form.stores }) = record { cut = is.cut; few = is.few; buffer = is.buffer; threads = is.threads; entry = refl } in
+    subst (λ (entry : List ℕ). form_at text ≡ Some (record { entry = entry; buffer = form.buffer; threads = form.threads; stores = form.stores })) (sym is.entry) (threads_found_all form.buffer form.threads form.stores text plain)
 
 stores_stand : (buffer : Option (List ℕ)) (text : List ℕ) → Named buffer → Begins text (statements_tokens buffer (stores_at buffer text).0) (stores_at buffer text).1 × HasBuffer buffer (stores_at buffer text).0
 stores_stand None text named = (refl, refl)
 stores_stand (Some name) text named = ((statements_stand most_statements name text named.word).begins, named.free)
 
-few_for : (buffer : Option (List ℕ)) (x y z : ℕ) (text : List ℕ) → Named buffer → length (tokens_of (record { buffer = buffer; threads = x ∷ y ∷ z ∷ []; stores = (stores_at buffer text).0 })) ≤ most_tokens
+few_for : (buffer : Option (List ℕ)) (x y z : ℕ) (text : List ℕ) → Named buffer → length (tokens_of (record { entry = codes "main"; buffer = buffer; threads = x ∷ y ∷ z ∷ []; stores = (stores_at buffer text).0 })) ≤ most_tokens
 few_for None x y z text named = omega arith
 few_for (Some name) x y z text named = few_tokens name x y z (statements_at most_statements name text).0 (statements_stand most_statements name text named.word).few
 
 parts_stand : (buffer : Option (List ℕ)) (threads : List ℕ) (text rest : List ℕ) → Heads text (buffer, threads, rest) → is_end (stores_at buffer rest).1 ≡ true
-    → IsFirstForm text (record { buffer = buffer; threads = threads; stores = (stores_at buffer rest).0 })
+    → IsFirstForm text (record { entry = codes "main"; buffer = buffer; threads = threads; stores = (stores_at buffer rest).0 })
 parts_stand buffer [] text rest heads ended = absurd heads.size
 parts_stand buffer (x ∷ []) text rest heads ended = absurd heads.size
 parts_stand buffer (x ∷ y ∷ []) text rest heads ended = absurd heads.size
@@ -236,6 +238,7 @@ parts_stand buffer (x ∷ y ∷ z ∷ []) text rest heads ended =
       few = few_for buffer x y z rest heads.named;
       buffer = stored.1;
       threads = heads.size;
+      entry = refl;
     }
 parts_stand buffer (x ∷ y ∷ z ∷ w ∷ others) text rest heads ended = absurd heads.size
 
@@ -245,7 +248,7 @@ unfolding form_at
 form_stands text form e =
     let s = bind_some (head_at text) (λ head. form_behind head.0 head.1 (stores_at head.0 head.2)) form e in
     let found = stores_at s.0.0 s.0.2 in
-    let g = guard_some (is_end found.1) (record { buffer = s.0.0; threads = s.0.1; stores = found.0 }) form s.2 in
+    let g = guard_some (is_end found.1) (record { entry = codes "main"; buffer = s.0.0; threads = s.0.1; stores = found.0 }) form s.2 in
     subst (λ (f : FirstForm). IsFirstForm text f) g.1 (parts_stand s.0.0 s.0.1 text s.0.2 (head_stands text s.0 s.1) g.0)
 
 -- a text has at most one first form

@@ -3,7 +3,7 @@
 -- The bytes are the written form of a container. They spell exactly one module. Its target, its metadata and its
 -- entry are those of the kernel that the text is. A lane of it asks the very events that a lane of the text asks,
 -- for every list of replies, and ends where that one ends.
-use Rattle.std.specs.Prelude.{◌≡◌, ℕ, List, codes}
+use Rattle.std.specs.Prelude.{◌≡◌, ℕ, List}
 use Rattle.lane_core.specs.SameLane.{SameLane}
 use Rattle.ir_core.specs.declared.module.Module.{Module}
 use Rattle.ir_core.specs.Metadata.{HasMetadata}
@@ -22,9 +22,9 @@ use Rattle.dxil_driver.specs.LiteralLane.{literal_stores}
 abbrev pub most_source : ℕ
 most_source = 1048576
 
--- the text is of the form that is compiled so far
-unfoldable pub HasFirstForm : List ℕ → Type 0
-HasFirstForm text = (form : FirstForm) × IsFirstForm text form
+-- the text is of the form that is compiled so far, with this entry
+unfoldable pub HasFirstForm : (text entry : List ℕ) → Type 0
+HasFirstForm text entry = (form : FirstForm) × IsFirstForm text form × (form.entry ≡ entry)
 
 -- the bytes contain a bitcode that spells blocks that record the module
 pub record Spells (bytes : List ℕ) (m : Module) : Type 0 where
@@ -41,25 +41,22 @@ pub record IsWritten (bytes : List ℕ) (m : Module) : Type 0 where
   pub bitcode : List ℕ
   pub form : bytes ≡ written_form bitcode 0 (uses_waves m)
 
--- the entry's name
-abbrev pub entry_name : List ℕ
-entry_name = codes "main"
-
 -- the bytes are a container of the module of a kernel
 pub record IsContainerOf (form : FirstForm) (m : Module) (bytes : List ℕ) : Type 0 where
   pub written : IsWritten bytes m
   pub spells : Spells bytes m
   pub only : (other : Module) → Spells bytes other → other ≡ m
-  pub metadata : HasMetadata m (kernel_resources form.buffer) (kernel_threads form.threads) entry_name
+  pub metadata : HasMetadata m (kernel_resources form.buffer) (kernel_threads form.threads) form.entry
   pub same : SameLane (literal_stores form.stores) (module_lane m)
 
--- the text is a kernel, and the bytes are its container
-pub record IsKernelsContainer (text bytes : List ℕ) : Type 0 where
+-- the text is a kernel with this entry, and the bytes are its container
+pub record IsKernelsContainer (text entry bytes : List ℕ) : Type 0 where
   pub form : FirstForm
   pub is_form : IsFirstForm text form
+  pub is_entry : form.entry ≡ entry
   pub kernel : Module
   pub container : IsContainerOf form kernel bytes
 
--- the bytes are what the text is compiled to
-unfoldable pub Compiled : (text bytes : List ℕ) → Type 0
-Compiled text bytes = IsKernelsContainer text bytes
+-- the bytes are what the text is compiled to with this entry
+unfoldable pub Compiled : (text entry bytes : List ℕ) → Type 0
+Compiled text entry bytes = IsKernelsContainer text entry bytes

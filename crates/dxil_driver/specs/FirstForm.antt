@@ -95,9 +95,10 @@ abbrev pub IsGroupSize : List ℕ → Type 0
 IsGroupSize (x ∷ y ∷ z ∷ []) = (1 ≤ x) × (x ≤ 1024) × (1 ≤ y) × (y ≤ 1024) × (1 ≤ z) × (z ≤ 64) × (x * y * z ≤ 1024)
 IsGroupSize _ = ⊥
 
--- the whole text is cut into tokens, and they are those of the form
+-- the whole text is cut into tokens, and they are those of the form, whose entry is `main`
 pub record IsFirstForm (text : List ℕ) (form : FirstForm) : Type 0 where
   pub cut : IsCut text (tokens_of form)
   pub few : length (tokens_of form) ≤ most_tokens
   pub buffer : HasBuffer form.buffer form.stores
   pub threads : IsGroupSize form.threads
+  pub entry : form.entry ≡ codes "main"

@@ -171,7 +171,7 @@ head_at text = do
 -- the form of a text whose head was read
 abbrev pub form_behind : Option (List ℕ) → List ℕ → List LiteralStore × List ℕ → Option FirstForm
 form_behind buffer threads found =
-    if is_end found.1 then Some (record { buffer = buffer; threads = threads; stores = found.0 }) else None
+    if is_end found.1 then Some (record { entry = codes "main"; buffer = buffer; threads = threads; stores = found.0 }) else None
 
 unfoldable pub form_at : List ℕ → Option FirstForm
 form_at text = do

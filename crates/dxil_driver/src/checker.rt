@@ -7,7 +7,7 @@ ghost use Rattle.dxil_driver.specs.Compiled.{Spells};
 ghost use Rattle.dxil_driver.specs.declared.checker.CheckFault.{CheckFault};
 
 use bc_records::{RecordFault, from_blocks};
-use bc_stream::{StreamFault, read_blocks};
+use bc_stream::{BlockList, StreamFault, no_blocks, read_blocks};
 use dx_container::{ContainerFault, unpack};
 use dx_validate::{Checked, Invalid, validate};
 use ir_core::{Module, Spot};
@@ -92,26 +92,42 @@ fn one_answer()
     bc_records::laws::no_record_fault();
 }
 
-/// The module of a container, by its layers one after the other.
-fn read_container(alloc: Global, bytes: &[u8]) -> Result<Module, CheckFault>
+/// The module of a container, by its layers one after the other. The blocks that it was read from are left in `kept`.
+fn read_container(alloc: Global, bytes: &[u8], kept: &mut BlockList) -> Result<Module, CheckFault>
     requires { length bytes.now < 2 ^ 32 }
     ensures { MatchResult result (Spells bytes.now) (IsRefused bytes.now) }
 {
     let content = unpack(bytes)?;
     let blocks = read_blocks(alloc, content.bitcode)?;
     let module = from_blocks(alloc, &blocks)?;
+    *kept = blocks;
     Ok(module)
 }
 
 /// The module of a container, which breaks none of the validator's rules, or the fault of the first layer.
 #[tactic(auto, unfolding(crate::specs::Check::Passes))]
-fn judge(alloc: Global, bytes: &[u8]) -> Result<Checked, CheckFault>
+fn judge(alloc: Global, bytes: &[u8], kept: &mut BlockList) -> Result<Checked, CheckFault>
     requires { length bytes.now < 2 ^ 32 }
     ensures { IsChecked bytes.now result }
 {
-    let module = read_container(alloc, bytes)?;
+    let module = read_container(alloc, bytes, kept)?;
     let checked = validate(module)?;
     Ok(checked)
+}
+
+/// `check`, which leaves the blocks that the module was read from in `kept`.
+pub(crate) fn check_keeping(
+    alloc: Global,
+    bytes: &[u8],
+    kept: &mut BlockList,
+) -> Result<Checked, CheckFault>
+    requires { length bytes.now < 2 ^ 32 }
+    ensures answer { IsChecked bytes.now result }
+    ensures passes { (m : Module) → Passes bytes.now m → GivesModule m result }
+    ensures fails { (fault : CheckFault) → Fails bytes.now fault → NamesFault fault result }
+{
+    one_answer();
+    judge(alloc, bytes, kept)
 }
 
 /// The module of a container, which breaks none of the validator's rules.
@@ -128,6 +144,6 @@ pub fn check(alloc: Global, bytes: &[u8]) -> Result<Checked, CheckFault>
     ensures passes { (m : Module) → Passes bytes.now m → GivesModule m result }
     ensures fails { (fault : CheckFault) → Fails bytes.now fault → NamesFault fault result }
 {
-    one_answer();
-    judge(alloc, bytes)
+    let mut blocks = no_blocks(alloc);
+    check_keeping(alloc, bytes, &mut blocks)
 }

@@ -198,7 +198,9 @@ fn form(alloc: Global, text: &[u8]) -> Result<Option<FirstForm>, NoMemory>
         return Ok(None);
     }
     let buffer = owned(alloc, name)?;
+    let entry = Sequence::from_slice(alloc, b"main")?;
     Ok(Some(FirstForm {
+        entry,
         buffer,
         threads,
         stores,

@@ -170,7 +170,8 @@ pub enum Terminal {
     PlusPlus,
     /// `--`
     MinusMinus,
-    /// A word or a mark with a number that no table has. No text has such a token.
+    /// A word or a mark with a number that no table has. No text has such a token, so a parser takes it for what stands
+    /// behind the last token.
     Unlisted,
 }
 

@@ -1,7 +1,7 @@
 //! What is done with the values that are read.
 
 /// What is done with the values that are read so far, the last one first.
-#[derive(Clone, Copy, Debug, PartialEq, Eq)]
+#[derive(Clone, Copy)]
 pub(crate) enum Act {
     /// Adds the index of the token that is looked at.
     Here,

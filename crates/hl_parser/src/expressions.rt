@@ -22,7 +22,11 @@ impl Parser {
             Terminal::Name if look.next == Terminal::OpenParenthesis => self.reads(
                 look,
                 &[Act::Here],
-                &[Symbol::Args, Symbol::Make(Act::Call), Symbol::Tail(42, least)],
+                &[
+                    Symbol::Args,
+                    Symbol::Make(Act::Call),
+                    Symbol::Tail(42, least),
+                ],
             ),
             _ => self.other_operand(look, least),
         }
@@ -33,7 +37,11 @@ impl Parser {
         ensures { IfOk result (λ outcome. Did (other_operand least look.terminal) look.at self.old self.new outcome) }
     {
         match look.terminal {
-            Terminal::OpenParenthesis => self.reads(look, &[Act::Here], &[Symbol::Parenthesis(least)]),
+            Terminal::OpenParenthesis => self.reads(
+                look,
+                &[Act::Here],
+                &[Symbol::Parenthesis(least)],
+            ),
             terminal if is_word(terminal) => self.reads(
                 look,
                 &[Act::Here],
@@ -93,7 +101,12 @@ impl Parser {
     }
 
     /// The operators behind an operand.
-    pub(crate) fn on_tail(&mut self, look: Look, production: u8, least: u8) -> Result<Outcome, NoMemory>
+    pub(crate) fn on_tail(
+        &mut self,
+        look: Look,
+        production: u8,
+        least: u8,
+    ) -> Result<Outcome, NoMemory>
         ensures { IfOk result (λ outcome. Did (on_tail production least look.terminal) look.at self.old self.new outcome) }
     {
         let level = level_of(look.terminal);

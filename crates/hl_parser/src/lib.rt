@@ -20,8 +20,6 @@ mod statements;
 mod step;
 mod symbol;
 mod take;
-#[cfg(test)]
-mod tests;
 mod tree;
 mod values;
 

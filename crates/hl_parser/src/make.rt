@@ -146,7 +146,7 @@ fn make_binary(alloc: Global, values: &mut Items<Value>, level: u8) -> Result<bo
 }
 
 /// The operands of an operation.
-#[derive(Debug, Drop)]
+#[derive(Drop)]
 struct Operands {
     /// The index of the first token.
     at: usize,

@@ -14,7 +14,7 @@ use sqlite_items::Items;
 use std::alloc::Global;
 
 /// What a symbol does at a token.
-#[derive(Clone, Copy, Debug, PartialEq, Eq)]
+#[derive(Clone, Copy)]
 pub(crate) enum Outcome {
     /// It reads it.
     Reads,
@@ -25,7 +25,7 @@ pub(crate) enum Outcome {
 }
 
 /// A token that is looked at.
-#[derive(Clone, Copy, Debug)]
+#[derive(Clone, Copy)]
 pub(crate) struct Look {
     /// Its index.
     pub(crate) at: usize,
@@ -36,7 +36,7 @@ pub(crate) struct Look {
 }
 
 /// What is still to be read, and what is read so far.
-#[derive(Debug, Drop)]
+#[derive(Drop)]
 pub(crate) struct Parser {
     /// What is still to be read.
     pub(crate) pending: Pending,

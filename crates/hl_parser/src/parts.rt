@@ -9,7 +9,7 @@ use crate::tree::{Tree, Trees};
 use sqlite_items::Boxed;
 
 /// What is read: the index of a token, a tree, trees, or nothing in the place of an optional part.
-#[derive(Debug, Drop)]
+#[derive(Drop)]
 pub(crate) enum Part {
     /// The index of a token.
     Token(usize),
@@ -22,7 +22,7 @@ pub(crate) enum Part {
 }
 
 /// What is read, and how deep it is.
-#[derive(Debug, Drop)]
+#[derive(Drop)]
 pub(crate) struct Value {
     /// What it is.
     pub(crate) part: Part,
@@ -33,7 +33,7 @@ pub(crate) struct Value {
 }
 
 /// A tree that is taken, and how deep it is.
-#[derive(Debug, Drop)]
+#[derive(Drop)]
 pub(crate) struct TakenTree {
     /// The tree.
     pub(crate) tree: Boxed<Tree>,
@@ -44,7 +44,7 @@ pub(crate) struct TakenTree {
 }
 
 /// Trees that are taken, and how deep they are.
-#[derive(Debug, Drop)]
+#[derive(Drop)]
 pub(crate) struct TakenTrees {
     /// The trees.
     pub(crate) trees: Trees,
@@ -55,7 +55,7 @@ pub(crate) struct TakenTrees {
 }
 
 /// An optional tree that is taken, and how deep it is.
-#[derive(Debug, Drop)]
+#[derive(Drop)]
 pub(crate) struct TakenMaybe {
     /// The tree.
     pub(crate) tree: Option<Boxed<Tree>>,

@@ -9,7 +9,7 @@ use std::alloc::Global;
 use std::marker::Model;
 
 /// The symbols that are still to be read, which contracts see as their list, the next one first.
-#[derive(Debug, Drop)]
+#[derive(Drop)]
 pub(crate) struct Pending {
     /// The symbols, the next one at the end.
     symbols: Items<Symbol>,

@@ -12,7 +12,7 @@ use base_core::NoMemory;
 use hl_lexer::Terminal;
 
 /// What comes of a token.
-#[derive(Clone, Copy, Debug, PartialEq, Eq)]
+#[derive(Clone, Copy)]
 pub(crate) enum Fed {
     /// It is read.
     Read,

@@ -4,7 +4,7 @@ use crate::act::Act;
 use hl_lexer::Terminal;
 
 /// A part of a program that is still to be read, or an act that stands between two such.
-#[derive(Clone, Copy, Debug, PartialEq, Eq)]
+#[derive(Clone, Copy)]
 pub(crate) enum Symbol {
     /// An act.
     Make(Act),

@@ -15,7 +15,7 @@ pub type Trees = Items<Tree>;
 /// `at` is the index of the first token. The other parts stand in order: trees, and the indices of those tokens that
 /// say more than that they stand there. A production of expressions with one part alone makes no tree of its own, so
 /// in the place of an expression stands a tree of any production from `Expr` to `Primary`.
-#[derive(Debug, Drop)]
+#[derive(Drop)]
 pub enum Tree {
     /// At least one item.
     Program {

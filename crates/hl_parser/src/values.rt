@@ -16,7 +16,7 @@ use sqlite_items::Items;
 use std::alloc::Global;
 
 /// What is read so far, unless it is too deep.
-#[derive(Debug, Drop)]
+#[derive(Drop)]
 pub(crate) struct Values {
     /// Where memory comes from.
     pub(crate) alloc: Global,

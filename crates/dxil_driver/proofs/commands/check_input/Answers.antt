@@ -3,4 +3,4 @@ use Rattle.dxil_driver.proofs.Refused.{passed_accepted}
 use Rattle.dxil_driver.proofs.commands.check_input.Goals as goal
 
 pub returns-clause-accepted : goal.returns-clause-accepted
-returns-clause-accepted c = passed_accepted c.args.bytes.now c.in_ok-check.field-0 c.requires c.in_ok-check.ensures.fails
+returns-clause-accepted c = passed_accepted c.args.bytes.now c.in_ok-checked.checked c.requires c.in_ok-checked.ensures.fails

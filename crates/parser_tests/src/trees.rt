@@ -2,8 +2,8 @@
 
 ghost use Rattle.std.specs.Prelude.{◌^◌, ◌<◌, length};
 
-use crate::{ParseFault, Tree, laws, parse};
 use hl_lexer::lex;
+use hl_parser::{ParseFault, Tree, laws, parse};
 use std::test::Fail;
 
 /// The fault of a text.
@@ -149,6 +149,22 @@ fn keeps_at_most_64_levels_and_reads_on(rt: HostRuntime) -> Result<(), Fail> {
         text.extend_from_slice(ending)?;
         if text.len() < 300000 {
             assert_eq!(rt; fault(&rt, &text)?, expected, "{levels}");
+        }
+    }
+    Ok(())
+}
+
+#[test]
+fn counts_each_operator_of_a_chain(rt: HostRuntime) -> Result<(), Fail> {
+    for (ones, expected) in [(63, None), (64, Some(ParseFault::TooDeep))] {
+        let mut text = vec![in rt.alloc(); b' '; 0]?;
+        text.extend_from_slice(b"void f(){1")?;
+        for _ in 1..ones {
+            text.extend_from_slice(b"+1")?;
+        }
+        text.extend_from_slice(b";}")?;
+        if text.len() < 300000 {
+            assert_eq!(rt; fault(&rt, &text)?, expected, "{ones}");
         }
     }
     Ok(())

@@ -1,6 +1,6 @@
 -- The answer is the one that the bytes have.
 use Rattle.dxil_driver.proofs.OneAnswer.{gives, names}
-use Rattle.dxil_driver.proofs.checker.check.Goals as goal
+use Rattle.dxil_driver.proofs.checker.check_keeping.Goals as goal
 
 pub returns-clause-passes : goal.returns-clause-passes
 returns-clause-passes c = λ m. gives c.one_answer.ensures c.args.bytes.now m c.judge.result c.judge.ensures

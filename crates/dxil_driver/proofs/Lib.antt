@@ -7,11 +7,8 @@ pub mod EmittedWhole
 pub mod Failing
 pub mod OneAnswer
 pub mod OneWord
-pub mod Parts
 pub mod Pushes
-pub mod Recognised
 pub mod Refused
-pub mod Scanned
-pub mod Statements
 pub mod StoresLane
+pub mod TreeForms
 pub mod WordPlaces

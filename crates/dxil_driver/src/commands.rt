@@ -15,9 +15,10 @@ ghost use Rattle.dxil_driver.specs.declared.refusal.Refusal.{Refusal};
 use crate::checker::check;
 use crate::command::Command;
 use crate::compiler::compile;
+use crate::options::{Options, Target};
 use crate::refusal::Refusal;
 use crate::status::Status;
-use base_core::{Bytes, Sink, Source, read_whole, write_whole};
+use base_core::{Bytes, Sink, Source, Text, read_whole, write_whole};
 use std::alloc::Global;
 
 /// What is printed for a container that passes.
@@ -49,7 +50,11 @@ fn compile_input(alloc: Global, text: &[u8]) -> Result<Bytes, Refusal>
     ensures accepted { OnOk result (¬ IsRefusedText Command.Compile text.now) }
     ensures complete { Accepts Command.Compile text.now → IfErr result (λ refusal. refusal ≡ Refusal.Memory) }
 {
-    let bytes = compile(alloc, text)?;
+    let options = Options {
+        entry: Text::from_slice(alloc, b"main")?,
+        target: Target::Cs60,
+    };
+    let bytes = compile(alloc, text, &options)?;
     Ok(bytes)
 }
 

@@ -7,7 +7,7 @@ use Rattle.ir_core.specs.declared.instruction.Inst.TheVariants.{Ret}
 use Rattle.ir_core.specs.declared.module.Function.{Function}
 use Rattle.ir_core.specs.Values.{instructions}
 use Rattle.bc_records.specs.FirstList.{IsListedType, IsListedInst, IsListed}
-use Rattle.dxil_driver.specs.Emitted.{emitted_types, buffer_store, create_handle, emitted_body, main_function, emitted_module}
+use Rattle.dxil_driver.specs.Emitted.{emitted_types, buffer_store, create_handle, emitted_body, entry_function, emitted_module}
 
 abbrev IsListedBody : Function × Body → Type 0
 IsListedBody b = All IsListedInst (instructions b.1)
@@ -25,20 +25,20 @@ insts_listed handle pairs =
     let ended : All IsListedInst (map (buffer_store handle) pairs ++ Ret ∷ []) = All-append IsListedInst (map (buffer_store handle) pairs) (Ret ∷ []) stores (All-cons IsListedInst Ret [] tt (All-nil IsListedInst)) in
     All-cons IsListedInst create_handle ((map (buffer_store handle) pairs ++ Ret ∷ []) ++ []) tt (All-append IsListedInst (map (buffer_store handle) pairs ++ Ret ∷ []) [] ended (All-nil IsListedInst))
 
-body_listed : (buffer : Option (List ℕ)) (words : List ℕ) (pairs : List (ℕ × ℕ)) → IsListedBody (main_function (emitted_body buffer words pairs), emitted_body buffer words pairs)
-body_listed None words pairs = All-cons IsListedInst Ret [] tt (All-nil IsListedInst)
-body_listed (Some name) words pairs = insts_listed (18 + length words) pairs
+body_listed : (entry : List ℕ) (buffer : Option (List ℕ)) (words : List ℕ) (pairs : List (ℕ × ℕ)) → IsListedBody (entry_function entry (emitted_body buffer words pairs), emitted_body buffer words pairs)
+body_listed entry None words pairs = All-cons IsListedInst Ret [] tt (All-nil IsListedInst)
+body_listed entry (Some name) words pairs = insts_listed (18 + length words) pairs
 
 -- the module has no variables, and its types and instructions have records
-pub emitted_listed : (buffer : Option (List ℕ)) (threads words : List ℕ) (pairs : List (ℕ × ℕ)) → IsListed (emitted_module buffer threads words pairs)
+pub emitted_listed : (entry : List ℕ) (buffer : Option (List ℕ)) (threads words : List ℕ) (pairs : List (ℕ × ℕ)) → IsListed (emitted_module entry buffer threads words pairs)
 unfolding emitted_module
-emitted_listed None threads words pairs = record {
+emitted_listed entry None threads words pairs = record {
   types = types_listed None;
   globals = refl;
-  code = All-cons IsListedBody (main_function (emitted_body None words pairs), emitted_body None words pairs) [] (body_listed None words pairs) (All-nil IsListedBody);
+  code = All-cons IsListedBody (entry_function entry (emitted_body None words pairs), emitted_body None words pairs) [] (body_listed entry None words pairs) (All-nil IsListedBody);
 }
-emitted_listed (Some name) threads words pairs = record {
+emitted_listed entry (Some name) threads words pairs = record {
   types = types_listed (Some name);
   globals = refl;
-  code = All-cons IsListedBody (main_function (emitted_body (Some name) words pairs), emitted_body (Some name) words pairs) [] (body_listed (Some name) words pairs) (All-nil IsListedBody);
+  code = All-cons IsListedBody (entry_function entry (emitted_body (Some name) words pairs), emitted_body (Some name) words pairs) [] (body_listed entry (Some name) words pairs) (All-nil IsListedBody);
 }

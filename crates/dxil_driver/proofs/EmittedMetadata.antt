@@ -10,7 +10,7 @@ use Rattle.ir_core.specs.Values.{Value, function_at, integer_at, body_values, lo
 use Rattle.ir_core.specs.Waves.{any_wave, uses_waves}
 use Rattle.ir_core.specs.MetadataTree.{named_trees}
 use Rattle.ir_core.specs.Metadata.{HasMetadata, IsEntryPoint, entry_node, resources_part, properties_node, shader_flags, metadata_names}
-use Rattle.dxil_driver.specs.Emitted.{signed_word, buffer_store, emitted_body, main_function, emitted_named, emitted_module}
+use Rattle.dxil_driver.specs.Emitted.{signed_word, buffer_store, emitted_body, entry_function, emitted_named, emitted_module}
 use Rattle.dxil_driver.specs.KernelMetadata.{kernel_resources, kernel_threads}
 use Rattle.dxil_driver.proofs.StoresLane.{word_kept}
 
@@ -20,13 +20,13 @@ stores_no_waves m values handle [] e = refl
 stores_no_waves m values handle (pair ∷ pairs) e = rw e (stores_no_waves m values handle pairs e)
 
 -- an emitted module has no wave operation
-pub no_waves : (buffer : Option (List ℕ)) (threads words : List ℕ) (pairs : List (ℕ × ℕ)) → uses_waves (emitted_module buffer threads words pairs) ≡ false
+pub no_waves : (entry : List ℕ) (buffer : Option (List ℕ)) (threads words : List ℕ) (pairs : List (ℕ × ℕ)) → uses_waves (emitted_module entry buffer threads words pairs) ≡ false
 unfolding emitted_module
-no_waves None threads words pairs = refl
-no_waves (Some name) threads words pairs =
-    let m : Module = emitted_module (Some name) threads words pairs in
+no_waves entry None threads words pairs = refl
+no_waves entry (Some name) threads words pairs =
+    let m : Module = emitted_module entry (Some name) threads words pairs in
     let body = emitted_body (Some name) words pairs in
-    rw (stores_no_waves m (body_values m (main_function body) body) (18 + length words) pairs refl) refl
+    rw (stores_no_waves m (body_values m (entry_function entry body) body) (18 + length words) pairs refl) refl
 
 -- the threads as the metadata reads them
 abbrev read_threads : List ℕ → Coordinates
@@ -41,26 +41,26 @@ threads_kept threads fit =
     rw (word_kept (slice_index threads 0) (fit 0)) (rw (word_kept (slice_index threads 1) (fit 1)) (rw (word_kept (slice_index threads 2) (fit 2)) refl))
 
 -- the entry point's node, before its parts are read
-nodes_read : (buffer : Option (List ℕ)) (threads words : List ℕ) (pairs : List (ℕ × ℕ)) → named_trees (emitted_module buffer threads words pairs) (codes "dx.entryPoints") ≡ Some (entry_node 0 (codes "main") (resources_part (kernel_resources buffer)) (properties_node (shader_flags (kernel_resources buffer) false) (read_threads threads)) ∷ [])
+nodes_read : (entry : List ℕ) (buffer : Option (List ℕ)) (threads words : List ℕ) (pairs : List (ℕ × ℕ)) → named_trees (emitted_module entry buffer threads words pairs) (codes "dx.entryPoints") ≡ Some (entry_node 0 entry (resources_part (kernel_resources buffer)) (properties_node (shader_flags (kernel_resources buffer) false) (read_threads threads)) ∷ [])
 unfolding emitted_module
-nodes_read None threads words pairs = refl
-nodes_read (Some name) threads words pairs = refl
+nodes_read entry None threads words pairs = refl
+nodes_read entry (Some name) threads words pairs = refl
 
-nodes_kept : (buffer : Option (List ℕ)) (threads words : List ℕ) (pairs : List (ℕ × ℕ)) → Fit threads → named_trees (emitted_module buffer threads words pairs) (codes "dx.entryPoints") ≡ Some (entry_node 0 (codes "main") (resources_part (kernel_resources buffer)) (properties_node (shader_flags (kernel_resources buffer) false) (kernel_threads threads)) ∷ [])
-nodes_kept buffer threads words pairs fit =
-    subst (λ (read : Coordinates). named_trees (emitted_module buffer threads words pairs) (codes "dx.entryPoints") ≡ Some (entry_node 0 (codes "main") (resources_part (kernel_resources buffer)) (properties_node (shader_flags (kernel_resources buffer) false) read) ∷ [])) (threads_kept threads fit) (nodes_read buffer threads words pairs)
+nodes_kept : (entry : List ℕ) (buffer : Option (List ℕ)) (threads words : List ℕ) (pairs : List (ℕ × ℕ)) → Fit threads → named_trees (emitted_module entry buffer threads words pairs) (codes "dx.entryPoints") ≡ Some (entry_node 0 entry (resources_part (kernel_resources buffer)) (properties_node (shader_flags (kernel_resources buffer) false) (kernel_threads threads)) ∷ [])
+nodes_kept entry buffer threads words pairs fit =
+    subst (λ (read : Coordinates). named_trees (emitted_module entry buffer threads words pairs) (codes "dx.entryPoints") ≡ Some (entry_node 0 entry (resources_part (kernel_resources buffer)) (properties_node (shader_flags (kernel_resources buffer) false) read) ∷ [])) (threads_kept threads fit) (nodes_read entry buffer threads words pairs)
 
-main_named : (buffer : Option (List ℕ)) (threads words : List ℕ) (pairs : List (ℕ × ℕ)) → function_at (emitted_module buffer threads words pairs) 0 ≡ Some (main_function (emitted_body buffer words pairs))
+entry_named : (entry : List ℕ) (buffer : Option (List ℕ)) (threads words : List ℕ) (pairs : List (ℕ × ℕ)) → function_at (emitted_module entry buffer threads words pairs) 0 ≡ Some (entry_function entry (emitted_body buffer words pairs))
 unfolding emitted_module
-main_named None threads words pairs = refl
-main_named (Some name) threads words pairs = refl
+entry_named entry None threads words pairs = refl
+entry_named entry (Some name) threads words pairs = refl
 
-entry_is : (buffer : Option (List ℕ)) (threads words : List ℕ) (pairs : List (ℕ × ℕ)) → Fit threads → IsEntryPoint (emitted_module buffer threads words pairs) (kernel_resources buffer) (kernel_threads threads) (codes "main") 0 (main_function (emitted_body buffer words pairs))
-entry_is buffer threads words pairs fit = record {
-  names = main_named buffer threads words pairs;
+entry_is : (entry : List ℕ) (buffer : Option (List ℕ)) (threads words : List ℕ) (pairs : List (ℕ × ℕ)) → Fit threads → IsEntryPoint (emitted_module entry buffer threads words pairs) (kernel_resources buffer) (kernel_threads threads) entry 0 (entry_function entry (emitted_body buffer words pairs))
+entry_is entry buffer threads words pairs fit = record {
+  names = entry_named entry buffer threads words pairs;
   name = refl;
   has_body = refl;
-  nodes = rw (no_waves buffer threads words pairs) (nodes_kept buffer threads words pairs fit);
+  nodes = rw (no_waves entry buffer threads words pairs) (nodes_kept entry buffer threads words pairs fit);
 }
 
 no_other_names : (buffer : Option (List ℕ)) → All (λ named. Contains metadata_names named.name) (emitted_named buffer)
@@ -69,24 +69,24 @@ no_other_names None =
 no_other_names (Some name) =
     All-from_recursion (λ named. Contains metadata_names named.name) (emitted_named (Some name)) ((0, lit< tt, refl), ((1, lit< tt, refl), ((2, lit< tt, refl), ((3, lit< tt, refl), tt))))
 
--- the module has the metadata of a compute shader with this buffer, these threads and the entry `main`
-pub emitted_metadata : (buffer : Option (List ℕ)) (threads words : List ℕ) (pairs : List (ℕ × ℕ)) → ((k : ℕ) → slice_index threads k < 2 ^ 32) → HasMetadata (emitted_module buffer threads words pairs) (kernel_resources buffer) (kernel_threads threads) (codes "main")
+-- the module has the metadata of a compute shader with this buffer, these threads and this entry
+pub emitted_metadata : (entry : List ℕ) (buffer : Option (List ℕ)) (threads words : List ℕ) (pairs : List (ℕ × ℕ)) → ((k : ℕ) → slice_index threads k < 2 ^ 32) → HasMetadata (emitted_module entry buffer threads words pairs) (kernel_resources buffer) (kernel_threads threads) entry
 unfolding emitted_module
-emitted_metadata None threads words pairs fit = record {
+emitted_metadata entry None threads words pairs fit = record {
   triple = refl;
   layout = refl;
   version = refl;
   shader_model = refl;
   resources_named = refl;
-  entry_point = (0, main_function (emitted_body None words pairs), entry_is None threads words pairs fit);
+  entry_point = (0, entry_function entry (emitted_body None words pairs), entry_is entry None threads words pairs fit);
   no_others = no_other_names None;
 }
-emitted_metadata (Some name) threads words pairs fit = record {
+emitted_metadata entry (Some name) threads words pairs fit = record {
   triple = refl;
   layout = refl;
   version = refl;
   shader_model = refl;
   resources_named = refl;
-  entry_point = (0, main_function (emitted_body (Some name) words pairs), entry_is (Some name) threads words pairs fit);
+  entry_point = (0, entry_function entry (emitted_body (Some name) words pairs), entry_is entry (Some name) threads words pairs fit);
   no_others = no_other_names (Some name);
 }

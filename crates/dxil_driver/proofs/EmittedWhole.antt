@@ -14,7 +14,7 @@ use Rattle.ir_core.specs.declared.module.Module.{Module}
 use Rattle.ir_core.specs.Values.{Value, constant_value, instruction_value, call_result, has_value, instructions, module_values, body_values, signature}
 use Rattle.ir_core.specs.Soundness.{Names, IsAlignment, IsSoundInst, IsSoundBody, IsSound, IsWhole, EachHasType, ends_block, EndsOnce}
 use Rattle.ir_core.proofs.SoundModules.{all_by_test, names_by_test, types_by_test, metas_by_test, HasOwnType, own_types}
-use Rattle.dxil_driver.specs.Emitted.{emitted_types, emitted_constants, word_constant, opcode_constants, body_constants, create_handle, buffer_store, emitted_body, main_function, emitted_functions, emitted_metas, emitted_named, emitted_module, Picks}
+use Rattle.dxil_driver.specs.Emitted.{emitted_types, emitted_constants, word_constant, opcode_constants, body_constants, create_handle, buffer_store, emitted_body, entry_function, emitted_functions, emitted_metas, emitted_named, emitted_module, Picks}
 use Rattle.dxil_driver.specs.declared.stores.LiteralStore.{LiteralStore}
 use Rattle.dxil_driver.specs.Places.{IsWithin}
 
@@ -45,10 +45,10 @@ consts_typed types = all_by_test (IsTyped types) (λ c. nat_lt c.ty types) (λ c
 
 -- without a buffer
 
-module _ (threads words : List ℕ) (pairs : List (ℕ × ℕ)) where
+module _ (entry threads words : List ℕ) (pairs : List (ℕ × ℕ)) where
   abbrev plain_module : Module
   unfolding emitted_module
-  plain_module = emitted_module None threads words pairs
+  plain_module = emitted_module entry None threads words pairs
 
   abbrev plain_body : Body
   plain_body = emitted_body None words pairs
@@ -59,7 +59,7 @@ module _ (threads words : List ℕ) (pairs : List (ℕ × ℕ)) where
       let own : (n : ℕ) (of : ℕ → Option ℕ) → true ≡ true = λ n of. refl in
       own_types plain_module (module_values plain_module) (All-from_recursion (HasOwnType plain_module (module_values plain_module)) (module_values plain_module) (own 0, (own 1, (own 2, (own 3, (own 4, (own 5, (own 6, (own 7, (own 8, tt))))))))))
 
-  plain_body_sound : IsSoundBody plain_module (main_function plain_body) plain_body
+  plain_body_sound : IsSoundBody plain_module (entry_function entry plain_body) plain_body
   unfolding emitted_module
   plain_body_sound = record {
     consts = All-nil (IsTyped 5);
@@ -72,39 +72,39 @@ module _ (threads words : List ℕ) (pairs : List (ℕ × ℕ)) where
   plain_sound = record {
     types = types_by_test 5 (emitted_types None) refl;
     globals = All-nil (λ g. Names 5 g.ty × IsAlignment g.align);
-    functions = All-cons (λ f. IsSome (signature (emitted_types None) f.ty)) (main_function plain_body) [] refl (All-nil (λ f. IsSome (signature (emitted_types None) f.ty)));
+    functions = All-cons (λ f. IsSome (signature (emitted_types None) f.ty)) (entry_function entry plain_body) [] refl (All-nil (λ f. IsSome (signature (emitted_types None) f.ty)));
     consts = consts_typed 5 (emitted_constants None threads) refl;
     typed = plain_typed;
-    metas = metas_by_test 5 9 16 (emitted_metas None) refl;
+    metas = metas_by_test 5 9 16 (emitted_metas entry None) refl;
     named = All-from_recursion (λ n. All (Names 16) n.ids) (emitted_named None) (names_by_test 16 (2 ∷ []) refl, (names_by_test 16 (5 ∷ []) refl, (names_by_test 16 (15 ∷ []) refl, tt)));
-    bodies_sound = All-cons (λ b. IsSoundBody plain_module b.0 b.1) (main_function plain_body, plain_body) [] plain_body_sound (All-nil (λ b. IsSoundBody plain_module b.0 b.1));
+    bodies_sound = All-cons (λ b. IsSoundBody plain_module b.0 b.1) (entry_function entry plain_body, plain_body) [] plain_body_sound (All-nil (λ b. IsSoundBody plain_module b.0 b.1));
   }
 
-  pub plain_whole : IsWhole (emitted_module None threads words pairs)
+  pub plain_whole : IsWhole (emitted_module entry None threads words pairs)
   unfolding emitted_module
   plain_whole = record {
     sound = plain_sound;
     few_bodies = lit< tt;
-    ended = All-cons (λ b. All (λ k. EndsOnce k.insts) b.1.blocks) (main_function plain_body, plain_body) [] (All-from_recursion (λ k. EndsOnce k.insts) plain_body.blocks (refl, tt)) (All-nil (λ b. All (λ k. EndsOnce k.insts) b.1.blocks));
+    ended = All-cons (λ b. All (λ k. EndsOnce k.insts) b.1.blocks) (entry_function entry plain_body, plain_body) [] (All-from_recursion (λ k. EndsOnce k.insts) plain_body.blocks (refl, tt)) (All-nil (λ b. All (λ k. EndsOnce k.insts) b.1.blocks));
   }
 
 -- with a buffer
 
-module _ (name threads words : List ℕ) (pairs : List (ℕ × ℕ)) where
+module _ (entry name threads words : List ℕ) (pairs : List (ℕ × ℕ)) where
   abbrev buffer_module : Module
   unfolding emitted_module
-  buffer_module = emitted_module (Some name) threads words pairs
+  buffer_module = emitted_module entry (Some name) threads words pairs
 
   abbrev buffer_body : Body
   buffer_body = emitted_body (Some name) words pairs
 
   -- the handle alone is an instruction's value
-  values_are : body_values buffer_module (main_function buffer_body) buffer_body ≡ module_values buffer_module ++ (map constant_value (body_constants words) ++ instruction_value create_handle ∷ [])
+  values_are : body_values buffer_module (entry_function entry buffer_body) buffer_body ≡ module_values buffer_module ++ (map constant_value (body_constants words) ++ instruction_value create_handle ∷ [])
   unfolding emitted_module
   values_are =
       ap (λ insts. module_values buffer_module ++ (map constant_value (body_constants words) ++ instruction_value create_handle ∷ map instruction_value insts)) (stores_valueless buffer_module (18 + length words) pairs refl)
 
-  count_is : length (body_values buffer_module (main_function buffer_body) buffer_body) ≡ 19 + length words
+  count_is : length (body_values buffer_module (entry_function entry buffer_body) buffer_body) ≡ 19 + length words
   unfolding emitted_module
   count_is =
       ap length values_are ∙ omega (arith, length-append (map constant_value (map word_constant words)) (instruction_value create_handle ∷ []), length-map (map word_constant words) constant_value, length-map words word_constant)
@@ -145,9 +145,9 @@ module _ (name threads words : List ℕ) (pairs : List (ℕ × ℕ)) where
       let handle : All P (instruction_value create_handle ∷ []) = All-cons P (instruction_value create_handle) [] (own 0) (All-nil P) in
       All-append P (map constant_value opcode_constants) (map constant_value (map word_constant words) ++ instruction_value create_handle ∷ []) opcodes (All-append P (map constant_value (map word_constant words)) (instruction_value create_handle ∷ []) numbers handle)
 
-  body_typed : EachHasType buffer_module (body_values buffer_module (main_function buffer_body) buffer_body)
+  body_typed : EachHasType buffer_module (body_values buffer_module (entry_function entry buffer_body) buffer_body)
   body_typed =
-      let values : List Value = body_values buffer_module (main_function buffer_body) buffer_body in
+      let values : List Value = body_values buffer_module (entry_function entry buffer_body) buffer_body in
       let P : Value → Type 0 = HasOwnType buffer_module values in
       own_types buffer_module values (subst (λ list. All P list) (sym values_are) (All-append P (module_values buffer_module) (map constant_value (body_constants words) ++ instruction_value create_handle ∷ []) (module_own values) (body_own values)))
 
@@ -155,11 +155,11 @@ module _ (name threads words : List ℕ) (pairs : List (ℕ × ℕ)) where
   body_consts_typed =
       All-append (IsTyped 14) opcode_constants (map word_constant words) (consts_typed 14 opcode_constants refl) (All-map (IsTyped 14) word_constant words (λ k d h. lit< tt))
 
-  buffer_body_sound : All (IsWithin words) pairs → IsSoundBody buffer_module (main_function buffer_body) buffer_body
+  buffer_body_sound : All (IsWithin words) pairs → IsSoundBody buffer_module (entry_function entry buffer_body) buffer_body
   unfolding emitted_module
   buffer_body_sound within = record {
     consts = body_consts_typed;
-    insts = insts_sound (length (body_values buffer_module (main_function buffer_body) buffer_body)) count_is within;
+    insts = insts_sound (length (body_values buffer_module (entry_function entry buffer_body) buffer_body)) count_is within;
     typed = body_typed;
   }
 
@@ -170,26 +170,26 @@ module _ (name threads words : List ℕ) (pairs : List (ℕ × ℕ)) where
       record {
         types = types_by_test 14 (emitted_types (Some name)) refl;
         globals = All-nil (λ g. Names 14 g.ty × IsAlignment g.align);
-        functions = All-from_recursion HasSignature (emitted_functions (Some name) buffer_body) (refl, (refl, (refl, tt)));
+        functions = All-from_recursion HasSignature (emitted_functions entry (Some name) buffer_body) (refl, (refl, (refl, tt)));
         consts = consts_typed 14 (emitted_constants (Some name) threads) refl;
         typed = own_types buffer_module (module_values buffer_module) (module_own (module_values buffer_module));
-        metas = metas_by_test 14 14 23 (emitted_metas (Some name)) refl;
+        metas = metas_by_test 14 14 23 (emitted_metas entry (Some name)) refl;
         named = All-from_recursion (λ n. All (Names 23) n.ids) (emitted_named (Some name)) (names_by_test 23 (2 ∷ []) refl, (names_by_test 23 (5 ∷ []) refl, (names_by_test 23 (21 ∷ []) refl, (names_by_test 23 (22 ∷ []) refl, tt))));
-        bodies_sound = All-cons (λ b. IsSoundBody buffer_module b.0 b.1) (main_function buffer_body, buffer_body) [] (buffer_body_sound within) (All-nil (λ b. IsSoundBody buffer_module b.0 b.1));
+        bodies_sound = All-cons (λ b. IsSoundBody buffer_module b.0 b.1) (entry_function entry buffer_body, buffer_body) [] (buffer_body_sound within) (All-nil (λ b. IsSoundBody buffer_module b.0 b.1));
       }
 
-  pub buffer_whole : All (IsWithin words) pairs → IsWhole (emitted_module (Some name) threads words pairs)
+  pub buffer_whole : All (IsWithin words) pairs → IsWhole (emitted_module entry (Some name) threads words pairs)
   unfolding emitted_module
   buffer_whole within = record {
     sound = buffer_sound within;
     few_bodies = lit< tt;
-    ended = All-cons (λ b. All (λ k. EndsOnce k.insts) b.1.blocks) (main_function buffer_body, buffer_body) [] (All-from_recursion (λ k. EndsOnce k.insts) buffer_body.blocks (ends_later create_handle (map (buffer_store (18 + length words)) pairs ++ Ret ∷ []) refl (stores_end (18 + length words) pairs), tt)) (All-nil (λ b. All (λ k. EndsOnce k.insts) b.1.blocks));
+    ended = All-cons (λ b. All (λ k. EndsOnce k.insts) b.1.blocks) (entry_function entry buffer_body, buffer_body) [] (All-from_recursion (λ k. EndsOnce k.insts) buffer_body.blocks (ends_later create_handle (map (buffer_store (18 + length words)) pairs ++ Ret ∷ []) refl (stores_end (18 + length words) pairs), tt)) (All-nil (λ b. All (λ k. EndsOnce k.insts) b.1.blocks));
   }
 
 -- the module of any stores whose pairs are among the words is whole
-pub emitted_whole : (buffer : Option (List ℕ)) (threads words : List ℕ) (pairs : List (ℕ × ℕ)) → All (IsWithin words) pairs → IsWhole (emitted_module buffer threads words pairs)
-emitted_whole None threads words pairs within = plain_whole threads words pairs
-emitted_whole (Some name) threads words pairs within = buffer_whole name threads words pairs within
+pub emitted_whole : (entry : List ℕ) (buffer : Option (List ℕ)) (threads words : List ℕ) (pairs : List (ℕ × ℕ)) → All (IsWithin words) pairs → IsWhole (emitted_module entry buffer threads words pairs)
+emitted_whole entry None threads words pairs within = plain_whole entry threads words pairs
+emitted_whole entry (Some name) threads words pairs within = buffer_whole entry name threads words pairs within
 
 -- pairs that stand for stores are among the words
 pub picks_within : (words : List ℕ) (pairs : List (ℕ × ℕ)) (stores : List LiteralStore) → Picks words pairs stores → All (IsWithin words) pairs

@@ -21,7 +21,7 @@ use Rattle.ir_core.proofs.Runs.{StandsAt, run_stands, run_goes, run_asks, past_e
 use Rattle.ir_core.proofs.SteadyMachine.{steady_module}
 use Rattle.dxil_driver.specs.declared.stores.LiteralStore.{LiteralStore}
 use Rattle.dxil_driver.specs.LiteralLane.{output_slot, store_event, literal_stores}
-use Rattle.dxil_driver.specs.Emitted.{emitted_module, signed_word, word_constant, buffer_store, emitted_body, main_function, PicksStore, Picks}
+use Rattle.dxil_driver.specs.Emitted.{emitted_module, signed_word, word_constant, buffer_store, emitted_body, entry_function, PicksStore, Picks}
 
 -- the handle of the buffer
 abbrev output_buffer : BufferHandle
@@ -74,10 +74,10 @@ stands_by body block place (inst ∷ insts) gets =
     let here : place ≡ place + 0 = omega arith in
     (ap (instruction_at body block) here ∙ gets 0, stands_by body block (place + 1) insts (λ k. let e : place + 1 + k ≡ place + suc k = omega arith in ap (instruction_at body block) e ∙ gets (suc k)))
 
-module _ (name threads words : List ℕ) (pairs : List (ℕ × ℕ)) (lane : Lane) where
+module _ (entry name threads words : List ℕ) (pairs : List (ℕ × ℕ)) (lane : Lane) where
   abbrev the_module : Module
   unfolding emitted_module
-  the_module = emitted_module (Some name) threads words pairs
+  the_module = emitted_module entry (Some name) threads words pairs
 
   abbrev the_body : Body
   the_body = emitted_body (Some name) words pairs
@@ -85,7 +85,7 @@ module _ (name threads words : List ℕ) (pairs : List (ℕ × ℕ)) (lane : Lan
   abbrev the_setting : Setting
   the_setting = record {
     m = the_module;
-    function = main_function the_body;
+    function = entry_function entry the_body;
     body = the_body;
     resources = resources_of the_module;
     threads = threads_of the_module;
@@ -102,7 +102,7 @@ module _ (name threads words : List ℕ) (pairs : List (ℕ × ℕ)) (lane : Lan
 
   abbrev before : Registers
   unfolding emitted_module
-  before = first_registers the_module.types (body_values the_module (main_function the_body) the_body)
+  before = first_registers the_module.types (body_values the_module (entry_function entry the_body) the_body)
 
   before_opcode : before 16 ≡ Some (a_number 32 69)
   unfolding emitted_module
@@ -112,14 +112,14 @@ module _ (name threads words : List ℕ) (pairs : List (ℕ × ℕ)) (lane : Lan
   unfolding emitted_module
   before_mask = refl
 
-  next_is : first_value the_module (main_function the_body) the_body 0 ≡ 18 + length words
+  next_is : first_value the_module (entry_function entry the_body) the_body 0 ≡ 18 + length words
   unfolding emitted_module
   next_is = omega (arith, length-map words word_constant)
 
   before_word : All (λ w. w < 2 ^ 32) words → (j w : ℕ) → slice_get words j ≡ Some w → before (18 + j) ≡ Some (a_number 32 w)
   unfolding emitted_module
   before_word fit j w e =
-      let values = body_values the_module (main_function the_body) the_body in
+      let values = body_values the_module (entry_function entry the_body) the_body in
       let mapped : slice_get (map word_constant words) j ≡ Some (word_constant w) = slice_get-map word_constant words j ∙ ap (option_map word_constant) e in
       let held : slice_get (map constant_value (map word_constant words)) j ≡ Some (constant_value (word_constant w)) = slice_get-map constant_value (map word_constant words) j ∙ ap (option_map constant_value) mapped in
       let at : slice_get values (18 + j) ≡ Some (constant_value (word_constant w)) = slice_get_drop values 18 j ∙ slice_get_front (map constant_value (map word_constant words)) _ j _ held in
@@ -127,14 +127,14 @@ module _ (name threads words : List ℕ) (pairs : List (ℕ × ℕ)) (lane : Lan
 
   abbrev after_handle : Registers
   unfolding emitted_module
-  after_handle = with_register before (first_value the_module (main_function the_body) the_body 0) (a_handle (Some output_buffer))
+  after_handle = with_register before (first_value the_module (entry_function entry the_body) the_body 0) (a_handle (Some output_buffer))
 
   ready_after : All (λ w. w < 2 ^ 32) words → Ready words (18 + length words) after_handle
   unfolding emitted_module
   ready_after fit = record {
     opcode = other_register before _ 16 _ (λ e. omega (arith, next_is, e)) ∙ before_opcode;
     mask = other_register before _ 14 _ (λ e. omega (arith, next_is, e)) ∙ before_mask;
-    buffer = subst (λ k. after_handle k ≡ Some (a_handle (Some output_buffer))) next_is (same_register before (first_value the_module (main_function the_body) the_body 0) (a_handle (Some output_buffer)));
+    buffer = subst (λ k. after_handle k ≡ Some (a_handle (Some output_buffer))) next_is (same_register before (first_value the_module (entry_function entry the_body) the_body 0) (a_handle (Some output_buffer)));
     word = λ j w e. other_register before _ (18 + j) _ (λ h. omega (arith, next_is, h, slice_get_within words j w e)) ∙ before_word fit j w e;
   }
 
@@ -150,33 +150,33 @@ module _ (name threads words : List ℕ) (pairs : List (ℕ × ℕ)) (lane : Lan
   module_run fit stores picks replies n le =
       run_goes the_setting (first_state the_setting replies) _ (handle_turn replies) n ∙ stores_run the_setting words (18 + length words) stores_name pairs stores picks _ stores_stand (ready_after fit) n le
 
-buffer_follows : (name threads words : List ℕ) (pairs : List (ℕ × ℕ)) (stores : List LiteralStore) → All (λ w. w < 2 ^ 32) words → Picks words pairs stores → Follows (literal_stores stores) (module_lane (emitted_module (Some name) threads words pairs))
+buffer_follows : (entry name threads words : List ℕ) (pairs : List (ℕ × ℕ)) (stores : List LiteralStore) → All (λ w. w < 2 ^ 32) words → Picks words pairs stores → Follows (literal_stores stores) (module_lane (emitted_module entry (Some name) threads words pairs))
 unfolding emitted_module
-buffer_follows name threads words pairs stores fit picks =
-    record { by = λ n lane replies. (asking (map store_event stores) replies, suc (n + length pairs), omega arith, refl, module_run name threads words pairs lane fit stores picks replies (n + length pairs) (omega arith)) }
+buffer_follows entry name threads words pairs stores fit picks =
+    record { by = λ n lane replies. (asking (map store_event stores) replies, suc (n + length pairs), omega arith, refl, module_run entry name threads words pairs lane fit stores picks replies (n + length pairs) (omega arith)) }
 
-plain_run : (threads words : List ℕ) (pairs : List (ℕ × ℕ)) (n : ℕ) (lane : Lane) (replies : List Reply) → module_lane (emitted_module None threads words pairs) n lane replies ≡ Some (asking [] replies)
+plain_run : (entry threads words : List ℕ) (pairs : List (ℕ × ℕ)) (n : ℕ) (lane : Lane) (replies : List Reply) → module_lane (emitted_module entry None threads words pairs) n lane replies ≡ Some (asking [] replies)
 unfolding emitted_module
-plain_run threads words pairs zero lane replies = refl
-plain_run threads words pairs (suc n) lane replies = refl
+plain_run entry threads words pairs zero lane replies = refl
+plain_run entry threads words pairs (suc n) lane replies = refl
 
-plain_follows : (threads words : List ℕ) (pairs : List (ℕ × ℕ)) → Follows (literal_stores []) (module_lane (emitted_module None threads words pairs))
-plain_follows threads words pairs =
-    record { by = λ n lane replies. (asking [] replies, n, omega arith, refl, plain_run threads words pairs n lane replies) }
+plain_follows : (entry threads words : List ℕ) (pairs : List (ℕ × ℕ)) → Follows (literal_stores []) (module_lane (emitted_module entry None threads words pairs))
+plain_follows entry threads words pairs =
+    record { by = λ n lane replies. (asking [] replies, n, omega arith, refl, plain_run entry threads words pairs n lane replies) }
 
 -- with a buffer the module's lane is that of the stores that the pairs stand for
-pub buffer_lane : (name threads words : List ℕ) (pairs : List (ℕ × ℕ)) (stores : List LiteralStore) → All (λ w. w < 2 ^ 32) words → Picks words pairs stores → SameLane (literal_stores stores) (module_lane (emitted_module (Some name) threads words pairs))
-buffer_lane name threads words pairs stores fit picks =
-    same_by_following (literal_stores stores) (module_lane (emitted_module (Some name) threads words pairs)) (buffer_follows name threads words pairs stores fit picks) (steady_module (emitted_module (Some name) threads words pairs))
+pub buffer_lane : (entry name threads words : List ℕ) (pairs : List (ℕ × ℕ)) (stores : List LiteralStore) → All (λ w. w < 2 ^ 32) words → Picks words pairs stores → SameLane (literal_stores stores) (module_lane (emitted_module entry (Some name) threads words pairs))
+buffer_lane entry name threads words pairs stores fit picks =
+    same_by_following (literal_stores stores) (module_lane (emitted_module entry (Some name) threads words pairs)) (buffer_follows entry name threads words pairs stores fit picks) (steady_module (emitted_module entry (Some name) threads words pairs))
 
 -- without a buffer it asks nothing
-pub plain_lane : (threads words : List ℕ) (pairs : List (ℕ × ℕ)) → SameLane (literal_stores []) (module_lane (emitted_module None threads words pairs))
-plain_lane threads words pairs =
-    same_by_following (literal_stores []) (module_lane (emitted_module None threads words pairs)) (plain_follows threads words pairs) (steady_module (emitted_module None threads words pairs))
+pub plain_lane : (entry threads words : List ℕ) (pairs : List (ℕ × ℕ)) → SameLane (literal_stores []) (module_lane (emitted_module entry None threads words pairs))
+plain_lane entry threads words pairs =
+    same_by_following (literal_stores []) (module_lane (emitted_module entry None threads words pairs)) (plain_follows entry threads words pairs) (steady_module (emitted_module entry None threads words pairs))
 
 -- the module of stores, of which there are none without a buffer, has their lane
-pub emitted_lane : (buffer : Option (List ℕ)) (threads words : List ℕ) (pairs : List (ℕ × ℕ)) (stores : List LiteralStore) → All (λ w. w < 2 ^ 32) words → Picks words pairs stores → (buffer ≡ None → stores ≡ []) → SameLane (literal_stores stores) (module_lane (emitted_module buffer threads words pairs))
-emitted_lane None threads words pairs stores fit picks none =
-    subst (λ l. SameLane (literal_stores l) (module_lane (emitted_module None threads words pairs))) (sym (none refl)) (plain_lane threads words pairs)
-emitted_lane (Some name) threads words pairs stores fit picks none =
-    buffer_lane name threads words pairs stores fit picks
+pub emitted_lane : (entry : List ℕ) (buffer : Option (List ℕ)) (threads words : List ℕ) (pairs : List (ℕ × ℕ)) (stores : List LiteralStore) → All (λ w. w < 2 ^ 32) words → Picks words pairs stores → (buffer ≡ None → stores ≡ []) → SameLane (literal_stores stores) (module_lane (emitted_module entry buffer threads words pairs))
+emitted_lane entry None threads words pairs stores fit picks none =
+    subst (λ l. SameLane (literal_stores l) (module_lane (emitted_module entry None threads words pairs))) (sym (none refl)) (plain_lane entry threads words pairs)
+emitted_lane entry (Some name) threads words pairs stores fit picks none =
+    buffer_lane entry name threads words pairs stores fit picks

@@ -3,7 +3,7 @@
 -- The bytes are the written form of a container. They spell exactly one module. Its target, its metadata and its
 -- entry are those of the kernel that the text is. A lane of it asks the very events that a lane of the text asks,
 -- for every list of replies, and ends where that one ends.
-use Rattle.std.specs.Prelude.{◌≡◌, ℕ, List, codes}
+use Rattle.std.specs.Prelude.{◌≡◌, ℕ, List}
 use Rattle.lane_core.specs.SameLane.{SameLane}
 use Rattle.ir_core.specs.declared.module.Module.{Module}
 use Rattle.ir_core.specs.Metadata.{HasMetadata}
@@ -41,16 +41,12 @@ pub record IsWritten (bytes : List ℕ) (m : Module) : Type 0 where
   pub bitcode : List ℕ
   pub form : bytes ≡ written_form bitcode 0 (uses_waves m)
 
--- the entry's name
-abbrev pub entry_name : List ℕ
-entry_name = codes "main"
-
 -- the bytes are a container of the module of a kernel
 pub record IsContainerOf (form : FirstForm) (m : Module) (bytes : List ℕ) : Type 0 where
   pub written : IsWritten bytes m
   pub spells : Spells bytes m
   pub only : (other : Module) → Spells bytes other → other ≡ m
-  pub metadata : HasMetadata m (kernel_resources form.buffer) (kernel_threads form.threads) entry_name
+  pub metadata : HasMetadata m (kernel_resources form.buffer) (kernel_threads form.threads) form.entry
   pub same : SameLane (literal_stores form.stores) (module_lane m)
 
 -- the text is a kernel with an entry of this name, and the bytes are its container

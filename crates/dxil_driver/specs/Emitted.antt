@@ -112,16 +112,16 @@ emitted_body (Some name) words pairs = record { consts = body_constants words; b
 
 -- functions
 
-abbrev pub main_function : Body → Function
-main_function body = record { name = codes "main"; ty = 3; body = Some body }
+abbrev pub entry_function : (entry : List ℕ) → Body → Function
+entry_function entry body = record { name = entry; ty = 3; body = Some body }
 
 abbrev pub declared_functions : List Function
 declared_functions =
     record { name = codes "dx.op.createHandle"; ty = 9; body = None } ∷ record { name = codes "dx.op.bufferStore.i32"; ty = 11; body = None } ∷ []
 
-abbrev pub emitted_functions : Option (List ℕ) → Body → List Function
-emitted_functions None body = main_function body ∷ []
-emitted_functions (Some name) body = main_function body ∷ declared_functions
+abbrev pub emitted_functions : (entry : List ℕ) → Option (List ℕ) → Body → List Function
+emitted_functions entry None body = entry_function entry body ∷ []
+emitted_functions entry (Some name) body = entry_function entry body ∷ declared_functions
 
 -- metadata, where the module's constants begin at value `first`
 
@@ -131,16 +131,16 @@ version_metas first =
     Value 1 first ∷ Value 1 (first + 1) ∷ Node (Some 0 ∷ Some 1 ∷ []) ∷ Chars (codes "cs") ∷ Value 1 (first + 2) ∷ Node (Some 3 ∷ Some 4 ∷ Some 1 ∷ []) ∷ []
 
 -- 6 and 7 the entry's function and name
-abbrev pub main_metas : List Meta
-main_metas = Value 4 0 ∷ Chars (codes "main") ∷ []
+abbrev pub function_metas : (entry : List ℕ) → List Meta
+function_metas entry = Value 4 0 ∷ Chars entry ∷ []
 
 -- 8 to 14 the entry's properties: the flags and the threads
 abbrev pub property_metas : (first : ℕ) → List Meta
 property_metas first =
     Value 2 (first + 7) ∷ Value 1 (first + 3) ∷ Value 1 (first + 4) ∷ Value 1 (first + 5) ∷ Value 1 (first + 6) ∷ Node (Some 10 ∷ Some 11 ∷ Some 12 ∷ []) ∷ Node (Some 1 ∷ Some 8 ∷ Some 9 ∷ Some 13 ∷ []) ∷ []
 
-abbrev pub plain_metas : (first : ℕ) → List Meta
-plain_metas first = version_metas first ++ (main_metas ++ property_metas first)
+abbrev pub plain_metas : (entry : List ℕ) (first : ℕ) → List Meta
+plain_metas entry first = version_metas first ++ (function_metas entry ++ property_metas first)
 
 -- 15 to 19 the buffer
 abbrev pub buffer_metas : (name : List ℕ) → List Meta
@@ -155,9 +155,9 @@ resource_metas = Node (Some 19 ∷ []) ∷ Node (None ∷ Some 20 ∷ None ∷ N
 abbrev pub entry_meta : (resources : Option ℕ) → Meta
 entry_meta resources = Node (Some 6 ∷ Some 7 ∷ None ∷ resources ∷ Some 14 ∷ [])
 
-abbrev pub emitted_metas : Option (List ℕ) → List Meta
-emitted_metas None = plain_metas 1 ++ (entry_meta None ∷ [])
-emitted_metas (Some name) = plain_metas 3 ++ (buffer_metas name ++ (resource_metas ++ (entry_meta (Some 21) ∷ [])))
+abbrev pub emitted_metas : (entry : List ℕ) → Option (List ℕ) → List Meta
+emitted_metas entry None = plain_metas entry 1 ++ (entry_meta None ∷ [])
+emitted_metas entry (Some name) = plain_metas entry 3 ++ (buffer_metas name ++ (resource_metas ++ (entry_meta (Some 21) ∷ [])))
 
 abbrev pub named_node : (name : List ℕ) (node : ℕ) → Named
 named_node name node = record { name = name; ids = node ∷ [] }
@@ -169,11 +169,11 @@ abbrev pub emitted_named : Option (List ℕ) → List Named
 emitted_named None = version_names ++ (named_node (codes "dx.entryPoints") 15 ∷ [])
 emitted_named (Some name) = version_names ++ (named_node (codes "dx.resources") 21 ∷ named_node (codes "dx.entryPoints") 22 ∷ [])
 
--- the module of a kernel with this buffer, these threads, and these stores: each pair has the places in
--- `words` of a store's address and word
-unfoldable pub emitted_module : Option (List ℕ) → (threads : List ℕ) (words : List ℕ) (pairs : List (ℕ × ℕ)) → Module
-emitted_module buffer threads words pairs =
-    record { triple = dxil_triple; layout = dxil_layout; types = emitted_types buffer; globals = []; functions = emitted_functions buffer (emitted_body buffer words pairs); consts = emitted_constants buffer threads; metas = emitted_metas buffer; named = emitted_named buffer }
+-- the module of a kernel with this entry, this buffer, these threads, and these stores: each pair has the
+-- places in `words` of a store's address and word
+unfoldable pub emitted_module : (entry : List ℕ) → Option (List ℕ) → (threads : List ℕ) (words : List ℕ) (pairs : List (ℕ × ℕ)) → Module
+emitted_module entry buffer threads words pairs =
+    record { triple = dxil_triple; layout = dxil_layout; types = emitted_types buffer; globals = []; functions = emitted_functions entry buffer (emitted_body buffer words pairs); consts = emitted_constants buffer threads; metas = emitted_metas entry buffer; named = emitted_named buffer }
 
 -- a number of 32 bits
 abbrev pub IsWord : ℕ → Type 0
@@ -199,11 +199,11 @@ Picks words [] [] = ⊤
 Picks words (pair ∷ pairs) (store ∷ stores) = PicksStore words pair store × Picks words pairs stores
 Picks words _ _ = ⊥
 
--- m is the module of a kernel with this buffer, these threads and these stores
-pub record IsEmitted (buffer : Option (List ℕ)) (threads : List ℕ) (stores : List LiteralStore) (m : Module) : Type 0 where
+-- m is the module of a kernel with this entry, this buffer, these threads and these stores
+pub record IsEmitted (entry : List ℕ) (buffer : Option (List ℕ)) (threads : List ℕ) (stores : List LiteralStore) (m : Module) : Type 0 where
   pub words : List ℕ
   pub pairs : List (ℕ × ℕ)
   pub distinct : words ≡ words_from [] stores
   pub fit : All IsWord words
   pub picks : Picks words pairs stores
-  pub same : m ≡ emitted_module buffer threads words pairs
+  pub same : m ≡ emitted_module entry buffer threads words pairs

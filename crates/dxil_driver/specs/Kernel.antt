@@ -10,12 +10,11 @@ use Rattle.bc_stream.specs.Spelling.{Spelled}
 use Rattle.bc_records.specs.Records.{Recorded}
 use Rattle.dxil_driver.specs.declared.stores.FirstForm.{FirstForm}
 use Rattle.dxil_driver.specs.LiteralLane.{literal_stores}
-use Rattle.dxil_driver.specs.Compiled.{entry_name}
 use Rattle.dxil_driver.specs.KernelMetadata.{kernel_resources, kernel_threads}
 
 -- the module has the metadata and the lane of a kernel, and no wave operation
 pub record IsKernelOf (form : FirstForm) (m : Module) : Type 0 where
-  pub metadata : HasMetadata m (kernel_resources form.buffer) (kernel_threads form.threads) entry_name
+  pub metadata : HasMetadata m (kernel_resources form.buffer) (kernel_threads form.threads) form.entry
   pub same : SameLane (literal_stores form.stores) (module_lane m)
   pub waveless : uses_waves m ≡ false
 

@@ -8,7 +8,7 @@ mod tests;
 mod types;
 mod words;
 
-ghost use Rattle.std.specs.Prelude.{◌≡◌, [], IfOk, codes, false};
+ghost use Rattle.std.specs.Prelude.{◌≡◌, [], IfOk, false};
 ghost use Rattle.lane_core.specs.SameLane.{SameLane};
 ghost use Rattle.ir_core.specs.Metadata.{HasMetadata};
 ghost use Rattle.ir_core.specs.ModuleLane.{module_lane};
@@ -31,15 +31,16 @@ const TRIPLE: [u8; 10] = *b"dxil-ms-dx";
 const LAYOUT: [u8; 79] =
     *b"e-m:e-p:32:32-i1:32-i8:32-i16:32-i32:32-i64:64-f16:32-f32:32-f64:64-n8:16:32:64";
 
-/// The module of a kernel with this buffer, these threads and these stores.
+/// The module of a kernel with this entry, this buffer, these threads and these stores.
 fn emit_module(
     alloc: Global,
+    entry: &[u8],
     buffer: &Option<Text>,
     threads: &[u32; 3],
     stores: &[LiteralStore],
 ) -> Result<Module, NoMemory>
-    ensures emitted { IfOk result (λ m. IsEmitted buffer.now threads.now stores.now m) }
-    ensures metadata { IfOk result (λ m. HasMetadata m (kernel_resources buffer.now) (kernel_threads threads.now) (codes "main")) }
+    ensures emitted { IfOk result (λ m. IsEmitted entry.now buffer.now threads.now stores.now m) }
+    ensures metadata { IfOk result (λ m. HasMetadata m (kernel_resources buffer.now) (kernel_threads threads.now) entry.now) }
 {
     let (words, pairs) = words::pool_stores(alloc, stores)?;
     let body = body::emit_body(alloc, buffer, words.as_slice(), pairs.as_slice())?;
@@ -48,9 +49,9 @@ fn emit_module(
         layout: Sequence::from_slice(alloc, &LAYOUT)?,
         types: types::emit_types(alloc, buffer)?,
         globals: Sequence::new(alloc),
-        functions: body::emit_functions(alloc, buffer, body)?,
+        functions: body::emit_functions(alloc, entry, buffer, body)?,
         consts: constants::emit_constants(alloc, buffer, threads)?,
-        metas: metadata::emit_metas(alloc, buffer)?,
+        metas: metadata::emit_metas(alloc, entry, buffer)?,
         named: metadata::emit_named(alloc, buffer)?,
     })
 }
@@ -64,12 +65,18 @@ fn emit_module(
 /// # Errors
 /// `NoMemory` where memory is refused.
 pub fn emit(alloc: Global, form: &FirstForm) -> Result<Module, NoMemory>
-    ensures emitted { IfOk result (λ m. IsEmitted form.now.buffer form.now.threads form.now.stores m) }
+    ensures emitted { IfOk result (λ m. IsEmitted form.now.entry form.now.buffer form.now.threads form.now.stores m) }
     ensures whole { IfOk result IsWhole }
     ensures listed { IfOk result IsListed }
-    ensures metadata { IfOk result (λ m. HasMetadata m (kernel_resources form.now.buffer) (kernel_threads form.now.threads) (codes "main")) }
+    ensures metadata { IfOk result (λ m. HasMetadata m (kernel_resources form.now.buffer) (kernel_threads form.now.threads) form.now.entry) }
     ensures waves { IfOk result (λ m. uses_waves m ≡ false) }
     ensures lane { IfOk result (λ m. (form.now.buffer ≡ None → form.now.stores ≡ []) → SameLane (literal_stores form.now.stores) (module_lane m)) }
 {
-    emit_module(alloc, &form.buffer, &form.threads, form.stores.as_slice())
+    emit_module(
+        alloc,
+        form.entry.as_slice(),
+        &form.buffer,
+        &form.threads,
+        form.stores.as_slice(),
+    )
 }

@@ -1,7 +1,7 @@
-//! Functions, and the body of `main`.
+//! Functions, and the body of the entry.
 
 ghost use Rattle.std.specs.Prelude.{◌≡◌, ◌++◌, ◌<◌, ◌^◌, IfOk, OnOk, map, length};
-ghost use Rattle.dxil_driver.specs.Emitted.{create_handle, buffer_store, emitted_instructions, one_block, emitted_body, main_function, declared_functions, emitted_functions};
+ghost use Rattle.dxil_driver.specs.Emitted.{create_handle, buffer_store, emitted_instructions, one_block, emitted_body, entry_function, declared_functions, emitted_functions};
 ghost use Rattle.dxil_driver.specs.Places.{AreShort};
 
 use super::constants;
@@ -105,7 +105,7 @@ fn only_block(alloc: Global, insts: Insts) -> Result<Blocks, NoMemory>
     Ok(blocks)
 }
 
-/// The body of `main`.
+/// The body of the entry.
 ///
 /// # Errors
 /// `NoMemory` where memory is refused.
@@ -157,20 +157,21 @@ fn push_declared(alloc: Global, functions: &mut Functions) -> Result<(), NoMemor
     Ok(())
 }
 
-/// The functions of a kernel, whose `main` has a body.
+/// The functions of a kernel, whose entry alone has a body.
 ///
 /// # Errors
 /// `NoMemory` where memory is refused.
 pub fn emit_functions(
     alloc: Global,
+    entry: &[u8],
     buffer: &Option<Text>,
     body: Body,
 ) -> Result<Functions, NoMemory>
-    ensures { IfOk result (λ functions. functions ≡ emitted_functions buffer.now body) }
+    ensures { IfOk result (λ functions. functions ≡ emitted_functions entry.now buffer.now body) }
 {
     let mut functions = Sequence::new(alloc);
     functions.push(Function {
-        name: Sequence::from_slice(alloc, b"main")?,
+        name: Sequence::from_slice(alloc, entry)?,
         ty: 3,
         body: Some(body),
     })?;

@@ -1,7 +1,7 @@
 //! Metadata: the version, the shader model, the entry and the buffer.
 
 ghost use Rattle.std.specs.Prelude.{◌≡◌, ◌+◌, ◌^◌, ◌<◌, ◌++◌, IfOk, OnOk};
-ghost use Rattle.dxil_driver.specs.Emitted.{version_metas, main_metas, plain_metas, property_metas, buffer_metas, resource_metas, entry_meta, emitted_metas, named_node, version_names, emitted_named};
+ghost use Rattle.dxil_driver.specs.Emitted.{version_metas, function_metas, plain_metas, property_metas, buffer_metas, resource_metas, entry_meta, emitted_metas, named_node, version_names, emitted_named};
 
 use base_core::{NoMemory, Sequence, Text};
 use ir_core::{Meta, Metas, Named, NamedList};
@@ -12,7 +12,7 @@ const I32: u32 = 1;
 
 const I64: u32 = 2;
 
-const MAIN_POINTER: u32 = 4;
+const ENTRY_POINTER: u32 = 4;
 
 const I1: u32 = 6;
 
@@ -69,11 +69,11 @@ fn push_version(alloc: Global, metas: &mut Metas, first: u32) -> Result<(), NoMe
 }
 
 /// Adds the entry's function and name.
-fn push_main(alloc: Global, metas: &mut Metas) -> Result<(), NoMemory>
-    ensures { OnOk result (metas.new ≡ metas.old ++ main_metas) }
+fn push_function(alloc: Global, metas: &mut Metas, entry: &[u8]) -> Result<(), NoMemory>
+    ensures { OnOk result (metas.new ≡ metas.old ++ function_metas entry.now) }
 {
-    metas.push(value(MAIN_POINTER, 0))?;
-    metas.push(chars(alloc, b"main")?)?;
+    metas.push(value(ENTRY_POINTER, 0))?;
+    metas.push(chars(alloc, entry)?)?;
     Ok(())
 }
 
@@ -130,19 +130,19 @@ fn push_resources(alloc: Global, metas: &mut Metas) -> Result<(), NoMemory>
 }
 
 /// The node of the entry.
-fn entry(alloc: Global, resources: Option<u32>) -> Result<Meta, NoMemory>
+fn entry_node(alloc: Global, resources: Option<u32>) -> Result<Meta, NoMemory>
     ensures { IfOk result (λ meta. meta ≡ entry_meta resources) }
 {
     node(alloc, &[Some(6), Some(7), None, resources, Some(14)])
 }
 
 /// Adds what every kernel's metadata begins with.
-fn push_plain(alloc: Global, metas: &mut Metas, first: u32) -> Result<(), NoMemory>
+fn push_plain(alloc: Global, metas: &mut Metas, entry: &[u8], first: u32) -> Result<(), NoMemory>
     requires { first < 1000 }
-    ensures { OnOk result (metas.new ≡ metas.old ++ plain_metas first) }
+    ensures { OnOk result (metas.new ≡ metas.old ++ plain_metas entry.now first) }
 {
     push_version(alloc, metas, first)?;
-    push_main(alloc, metas)?;
+    push_function(alloc, metas, entry)?;
     push_properties(alloc, metas, first)?;
     Ok(())
 }
@@ -151,21 +151,21 @@ fn push_plain(alloc: Global, metas: &mut Metas, first: u32) -> Result<(), NoMemo
 ///
 /// # Errors
 /// `NoMemory` where memory is refused.
-pub fn emit_metas(alloc: Global, buffer: &Option<Text>) -> Result<Metas, NoMemory>
-    ensures { IfOk result (λ metas. metas ≡ emitted_metas buffer.now) }
+pub fn emit_metas(alloc: Global, entry: &[u8], buffer: &Option<Text>) -> Result<Metas, NoMemory>
+    ensures { IfOk result (λ metas. metas ≡ emitted_metas entry.now buffer.now) }
 {
     let mut metas = Sequence::new(alloc);
     match buffer {
         None => {
-            push_plain(alloc, &mut metas, FIRST_CONSTANT)?;
-            metas.push(entry(alloc, None)?)?;
+            push_plain(alloc, &mut metas, entry, FIRST_CONSTANT)?;
+            metas.push(entry_node(alloc, None)?)?;
             Ok(metas)
         }
         Some(name) => {
-            push_plain(alloc, &mut metas, FIRST_CONSTANT_WITH_BUFFER)?;
+            push_plain(alloc, &mut metas, entry, FIRST_CONSTANT_WITH_BUFFER)?;
             push_buffer(alloc, &mut metas, name.as_slice())?;
             push_resources(alloc, &mut metas)?;
-            metas.push(entry(alloc, Some(RESOURCES))?)?;
+            metas.push(entry_node(alloc, Some(RESOURCES))?)?;
             Ok(metas)
         }
     }

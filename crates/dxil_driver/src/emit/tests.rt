@@ -12,6 +12,7 @@ fn form(rt: &HostRuntime, name: Option<&[u8]>, stores: &[LiteralStore]) -> Resul
     };
     let stores = LiteralStores::from_slice(rt.alloc(), stores)?;
     Ok(FirstForm {
+        entry: Text::from_slice(rt.alloc(), b"fill")?,
         buffer,
         threads: [8, 4, 2],
         stores,
@@ -33,8 +34,8 @@ fn two_stores_share_a_word(rt: HostRuntime) -> Result<(), Fail> {
     let module = emit(rt.alloc(), &form(&rt, Some(b"o"), &stores)?)?;
     assert_eq!(rt; module.types.len(), 14);
     assert_eq!(rt; module.metas.len(), 23);
-    let main = module.functions.get(0).ok_or("main is there")?;
-    let body = main.body.as_ref().ok_or("main has a body")?;
+    let entry = module.functions.get(0).ok_or("the entry is there")?;
+    let body = entry.body.as_ref().ok_or("the entry has a body")?;
     assert_eq!(rt; body.consts.len(), 7);
     let word = body.consts.get(6).copied().ok_or("there are three words")?;
     assert_eq!(rt; word.value, ConstValue::Int(-1));
@@ -54,12 +55,13 @@ fn two_stores_share_a_word(rt: HostRuntime) -> Result<(), Fail> {
 }
 
 #[test]
-fn a_main_without_a_buffer_ends(rt: HostRuntime) -> Result<(), Fail> {
+fn an_entry_without_a_buffer_ends(rt: HostRuntime) -> Result<(), Fail> {
     let module = emit(rt.alloc(), &form(&rt, None, &[])?)?;
     assert_eq!(rt; module.functions.len(), 1);
     assert_eq!(rt; module.metas.len(), 16);
-    let main = module.functions.get(0).ok_or("main is there")?;
-    let body = main.body.as_ref().ok_or("main has a body")?;
+    let entry = module.functions.get(0).ok_or("the entry is there")?;
+    assert_eq!(rt; entry.name.as_slice(), b"fill".as_slice());
+    let body = entry.body.as_ref().ok_or("the entry has a body")?;
     let block = body.blocks.get(0).ok_or("the body has a block")?;
     assert_eq!(rt; block.insts.len(), 1);
     Ok(())

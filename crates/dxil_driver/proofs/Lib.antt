@@ -1,4 +1,5 @@
 pub mod Assembled
+pub mod Compiling
 pub mod Containers
 pub mod EmittedFacts
 pub mod EmittedListed
@@ -8,6 +9,7 @@ pub mod Failing
 pub mod OneAnswer
 pub mod OneWord
 pub mod Pushes
+pub mod Recognised
 pub mod Refused
 pub mod StoresLane
 pub mod TreeForms

@@ -6,11 +6,12 @@ use Rattle.hl_lexer.specs.declared.fault.LexFault.TheVariants.{BadByte as NoToke
 use Rattle.dx_container.specs.Container.{FaultIs}
 use Rattle.dxil_driver.specs.Check.{HasStreamFault, HasRecordFault, HasVerdict, Passes}
 use Rattle.dxil_driver.specs.Compiled.{most_source, HasFirstForm, Compiled}
-use Rattle.dxil_driver.specs.CompileFaults.{IsUnbuilt}
+use Rattle.dxil_driver.specs.CompileFaults.{HasTokensFault}
 use Rattle.dxil_driver.specs.SourceText.{HasSyntaxFault, IsTooDeep}
 use Rattle.dxil_driver.specs.Refusal.{line}
 use Rattle.dxil_driver.specs.declared.command.Command.{Command}
 use Rattle.dxil_driver.specs.declared.command.Command.TheVariants.{Compile, Check}
+use Rattle.dxil_driver.specs.declared.compiler.CompileFault.TheVariants.{Unbuilt}
 use Rattle.dxil_driver.specs.declared.refusal.Refusal.{Refusal}
 use Rattle.dxil_driver.specs.declared.refusal.Refusal.TheVariants.{BadByte, NumberTooLarge, TooManyTokens, Syntax, TooDeep, NotBuilt, Container, Stream, Records, Broken}
 
@@ -52,7 +53,7 @@ Refuses Compile text (NumberTooLarge place) = IsFirstFault text (LargeNumber pla
 Refuses Compile text TooManyTokens = IsFirstFault text MoreTokens
 Refuses Compile text (Syntax place) = HasSyntaxFault text place
 Refuses Compile text TooDeep = IsTooDeep text
-Refuses Compile text NotBuilt = IsUnbuilt text (codes "main")
+Refuses Compile text NotBuilt = HasTokensFault text (codes "main") Unbuilt
 Refuses Check bytes (Container fault) = FaultIs bytes fault.kind fault.offset
 Refuses Check bytes (Stream kind bit) = HasStreamFault bytes kind bit
 Refuses Check bytes (Records kind block at) = HasRecordFault bytes kind block at

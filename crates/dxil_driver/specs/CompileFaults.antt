@@ -14,8 +14,11 @@ use Rattle.hl_parser.specs.Views.{plain_of}
 use Rattle.hl_parser.specs.declared.tree.Tree.{Tree}
 use Rattle.hl_parser.specs.declared.fault.ParseFault.{ParseFault}
 use Rattle.hl_parser.specs.declared.fault.ParseFault.TheVariants.{Syntax, TooDeep, Memory as NoRoomForTree}
-use Rattle.dxil_driver.specs.Compiled.{most_source, HasFirstForm}
-use Rattle.dxil_driver.specs.SourceText.{HasTokens, HasTree, IsBrokenAt, SpellTooDeep, start}
+use Rattle.ir_core.specs.declared.module.Module.{Module}
+use Rattle.dxil_driver.specs.declared.stores.FirstForm.{FirstForm}
+use Rattle.dxil_driver.specs.Compiled.{most_source, IsContainerOf}
+use Rattle.dxil_driver.specs.FirstForm.{IsForm}
+use Rattle.dxil_driver.specs.SourceText.{HasTokens, IsBrokenAt, SpellTooDeep, SpellTree, start}
 use Rattle.dxil_driver.specs.declared.compiler.CompileFault.{CompileFault}
 use Rattle.dxil_driver.specs.declared.compiler.CompileFault.TheVariants.{TooLong, Lex, Parse, Unbuilt, Memory}
 
@@ -25,20 +28,51 @@ HasTreeFault tokens end (Syntax at) place = IsBrokenAt tokens end at place
 HasTreeFault tokens end TooDeep place = SpellTooDeep tokens × (place ≡ start)
 HasTreeFault tokens end NoRoomForTree place = ⊥
 
--- the text has a tree, and none of the first form for an entry of this name
-pub record IsUnbuilt (text entry : List ℕ) : Type 0 where
-  pub tokens : List Lexeme
+-- the tokens spell a tree that isn't a first form for an entry of this name
+pub record SpellOther (tokens : List Lexeme) (entry : List ℕ) : Type 0 where
   pub tree : plain.Tree
-  pub has : HasTree text tokens tree
-  pub other : ¬ HasFirstForm text entry
+  pub tree-is : SpellTree tokens tree
+  pub other : (form : FirstForm) → ¬ IsForm tokens tree entry form
 
--- the text has this fault
+-- tokens have this fault, for an entry of this name
+abbrev pub HaveFault : List Lexeme → Place → (entry : List ℕ) → CompileFault → Type 0
+HaveFault tokens end entry (Parse fault place) = HasTreeFault tokens end fault place
+HaveFault tokens end entry Unbuilt = SpellOther tokens entry
+HaveFault tokens end entry TooLong = ⊥
+HaveFault tokens end entry (Lex fault) = ⊥
+HaveFault tokens end entry Memory = ⊥
+
+-- the text has tokens, and they have this fault
+abbrev pub HasTokensFault : (text entry : List ℕ) → CompileFault → Type 0
+HasTokensFault text entry fault = (tokens : List Lexeme) × ((end : Place) × HasTokens text tokens end × HaveFault tokens end entry fault)
+
+-- the text has this fault, for an entry of this name
 abbrev pub HasFault : (text entry : List ℕ) → CompileFault → Type 0
 HasFault text entry TooLong = most_source < length text
 HasFault text entry (Lex fault) = (length text ≤ most_source) × IsFirstFault text fault
-HasFault text entry (Parse fault place) = (length text ≤ most_source) × ((tokens : List Lexeme) × ((end : Place) × HasTokens text tokens end × HasTreeFault tokens end fault place))
-HasFault text entry Unbuilt = (length text ≤ most_source) × IsUnbuilt text entry
+HasFault text entry (Parse fault place) = (length text ≤ most_source) × HasTokensFault text entry (Parse fault place)
+HasFault text entry Unbuilt = (length text ≤ most_source) × HasTokensFault text entry Unbuilt
 HasFault text entry Memory = ⊥
+
+-- tokens spell a tree that is a first form for an entry of this name
+pub record SpellForm (tokens : List Lexeme) (entry : List ℕ) : Type 0 where
+  pub tree : plain.Tree
+  pub tree-is : SpellTree tokens tree
+  pub form : FirstForm
+  pub is_form : IsForm tokens tree entry form
+
+-- the bytes are a container of a tree of tokens
+pub record IsContainerOfTree (tokens : List Lexeme) (tree : plain.Tree) (entry bytes : List ℕ) : Type 0 where
+  pub form : FirstForm
+  pub is_form : IsForm tokens tree entry form
+  pub kernel : Module
+  pub container : IsContainerOf form kernel bytes
+
+-- the bytes are a container of what tokens spell
+pub record IsContainerOfTokens (tokens : List Lexeme) (entry bytes : List ℕ) : Type 0 where
+  pub tree : plain.Tree
+  pub tree-is : SpellTree tokens tree
+  pub made : IsContainerOfTree tokens tree entry bytes
 
 -- an answer names a fault of the tokens, with its place
 abbrev pub NamesTreeFault : List Lexeme → Place → CompileFault → Type 0

@@ -167,18 +167,22 @@ buffer_beside tokens tree entry = do
   name ← declared_of tokens tree
   if bytes_eq name entry then None else Some name
 
--- the buffer's name, where there is one, and the function
-abbrev pub first_items : List Lexeme → Trees → List ℕ → Option (Option (List ℕ) × Tree)
-first_items tokens (more_trees item no_trees) entry = item_of item >>= λ function. Some (None, function)
-first_items tokens (more_trees first (more_trees second no_trees)) entry = do
-  declared ← item_of first
+-- the buffer's name and the function behind it
+unfoldable pub behind_buffer : List Lexeme → Trees → List ℕ → Option (Option (List ℕ) × Tree)
+behind_buffer tokens items entry = do
+  two ← two_of items
+  declared ← item_of two.0
   name ← buffer_beside tokens declared entry
-  function ← item_of second
+  function ← item_of two.1
   Some (Some name, function)
-first_items tokens _ entry = None
+
+-- a function alone, or behind a buffer
+abbrev pub alone_or : Option Tree → Option (Option (List ℕ) × Tree) → Option (Option (List ℕ) × Tree)
+alone_or None behind = behind
+alone_or (Some only) behind = item_of only >>= λ function. Some (None, function)
 
 unfoldable pub parts_of : List Lexeme → Tree → List ℕ → Option (Option (List ℕ) × Tree)
-parts_of tokens tree entry = items_of tree >>= λ items. first_items tokens items entry
+parts_of tokens tree entry = items_of tree >>= λ items. alone_or (one_of items) (behind_buffer tokens items entry)
 
 unfoldable pub store_of : List Lexeme → List ℕ → Tree → Option LiteralStore
 store_of tokens buffer tree = do

@@ -7,8 +7,10 @@ ghost use Rattle.hl_parser.specs.Trees as plain;
 ghost use Rattle.hl_parser.specs.Views.{plain_of};
 ghost use Rattle.hl_parser.specs.declared.fault.ParseFault.{ParseFault};
 ghost use Rattle.dxil_driver.specs.Compiled.{HasFirstForm, Compiled, most_source};
-ghost use Rattle.dxil_driver.specs.CompileFaults.{GivesTree, HasFault, HasTreeFault, NamesTreeFault};
+ghost use Rattle.dxil_driver.specs.CompileFaults.{GivesTree, HasFault, HasTreeFault, HaveFault, IsContainerOfTokens, IsContainerOfTree, NamesTreeFault, SpellForm};
+ghost use Rattle.dxil_driver.specs.FirstForm.{IsForm};
 ghost use Rattle.dxil_driver.specs.SourceText.{IsPlaceOf, SpellTree};
+ghost use Rattle.dxil_driver.specs.declared.stores.FirstForm.{FirstForm};
 ghost use Rattle.dxil_driver.specs.declared.compiler.CompileFault.{CompileFault};
 
 use crate::command::MOST_SOURCE;
@@ -100,6 +102,48 @@ fn read_tree<'a>(alloc: Global, tokens: &Tokens<'a>) -> Result<Tree, CompileFaul
     }
 }
 
+/// The container of a tree of tokens.
+///
+/// # Errors
+/// `Unbuilt` exactly where the tree is no first form for an entry of this name, and `Memory`, to which it yields.
+fn compile_tree<'a>(
+    alloc: Global,
+    tokens: &Tokens<'a>,
+    tree: &Tree,
+    entry: &[u8],
+) -> Result<Bytes, CompileFault>
+    ensures made { IfOk result (IsContainerOfTree (lexemes_of tokens.now) (plain_of tree.now) entry.now) }
+    ensures fault { IfErr result (λ fault. (fault ≡ CompileFault.Memory)
+        ⊎ ((fault ≡ CompileFault.Unbuilt) × ((form : FirstForm) → ¬ IsForm (lexemes_of tokens.now) (plain_of tree.now) entry.now form))) }
+{
+    match first_form(alloc, tokens, tree, entry)? {
+        None => Err(CompileFault::Unbuilt),
+        Some(form) => {
+            let bytes = kernel_container(alloc, &form)?;
+            Ok(bytes)
+        }
+    }
+}
+
+/// The container of what tokens spell.
+///
+/// # Errors
+/// `Parse` and `Unbuilt` exactly where the tokens have that fault, and `Memory`, to which these yield.
+fn compile_tokens<'a>(
+    alloc: Global,
+    tokens: &Tokens<'a>,
+    entry: &[u8],
+) -> Result<Bytes, CompileFault>
+    ensures made { IfOk result (IsContainerOfTokens (lexemes_of tokens.now) entry.now) }
+    ensures complete { SpellForm (lexemes_of tokens.now) entry.now → IfErr result (λ fault. fault ≡ CompileFault.Memory) }
+    ensures fault { IfErr result (λ fault. (fault ≡ CompileFault.Memory) ⊎ HaveFault (lexemes_of tokens.now) tokens.now.end entry.now fault) }
+    ensures every_fault { (fault : CompileFault) → HaveFault (lexemes_of tokens.now) tokens.now.end entry.now fault
+        → IsErrOf result fault ⊎ IsErrOf result CompileFault.Memory }
+{
+    let tree = read_tree(alloc, tokens)?;
+    compile_tree(alloc, tokens, &tree, entry)
+}
+
 /// The container of the text.
 ///
 /// # Errors
@@ -125,12 +169,5 @@ pub fn compile(alloc: Global, text: &[u8], options: &Options) -> Result<Bytes, C
         return Err(CompileFault::TooLong);
     }
     let tokens = lex(alloc, text)?;
-    let tree = read_tree(alloc, &tokens)?;
-    match first_form(alloc, &tokens, &tree, options.entry.as_slice())? {
-        None => Err(CompileFault::Unbuilt),
-        Some(form) => {
-            let bytes = kernel_container(alloc, &form)?;
-            Ok(bytes)
-        }
-    }
+    compile_tokens(alloc, &tokens, options.entry.as_slice())
 }

@@ -6,7 +6,7 @@ ghost use Rattle.hl_lexer.specs.Tokens.{lexeme_of, lexemes_of};
 ghost use Rattle.hl_parser.specs.Views.{plain_of, plain_trees};
 ghost use Rattle.dxil_driver.specs.declared.stores.FirstForm.{FirstForm};
 ghost use Rattle.dxil_driver.specs.FirstForm.{IsForm};
-ghost use Rattle.dxil_driver.specs.Reading.{Reads, buffer_beside, declared_of, entry_of, form_of, has_bytes, head_of, is_group_size, name_at, number_at, number_in, parts_of, sizes_of, store_of, stores_of, stores_with, text_at, threads_of, without};
+ghost use Rattle.dxil_driver.specs.Reading.{Reads, behind_buffer, buffer_beside, declared_of, entry_of, form_of, has_bytes, head_of, is_group_size, name_at, number_at, number_in, parts_of, sizes_of, store_of, stores_of, stores_with, text_at, threads_of, without};
 
 use crate::stores::{FirstForm, LiteralStore, LiteralStores};
 use crate::tree_parts::{
@@ -163,7 +163,22 @@ fn buffer_beside<'a>(tokens: &[Token<'a>], tree: &Tree, entry: &[u8]) -> Option<
     if name == entry { None } else { Some(name) }
 }
 
-/// The name of the buffer, where there is one, and the function behind it.
+/// The name of the buffer, and the function behind it.
+#[tactic(auto, unfolding(crate::specs::Reading::behind_buffer))]
+fn behind_buffer<'a, 't>(
+    tokens: &[Token<'a>],
+    items: &'t [Tree],
+    entry: &[u8],
+) -> Option<(Option<&'a [u8]>, &'t Tree)>
+    ensures { Reads (λ found. (option_map (λ name. name.now) found.0, plain_of found.1.now)) result (behind_buffer (map lexeme_of tokens.now) (plain_trees items.now) entry.now) }
+{
+    let (first, second) = two(items)?;
+    let name = buffer_beside(tokens, item(first)?, entry)?;
+    let function = item(second)?;
+    Some((Some(name), function))
+}
+
+/// The function of a program, and the name of the buffer before it, where there is one.
 #[tactic(auto, unfolding(crate::specs::Reading::parts_of))]
 fn parts_of<'a, 't>(
     tokens: &[Token<'a>],
@@ -178,12 +193,7 @@ fn parts_of<'a, 't>(
             let function = item(only)?;
             Some((None, function))
         }
-        None => {
-            let (first, second) = two(items)?;
-            let name = buffer_beside(tokens, item(first)?, entry)?;
-            let function = item(second)?;
-            Some((Some(name), function))
-        }
+        None => behind_buffer(tokens, items, entry),
     }
 }
 
@@ -290,11 +300,13 @@ fn form<'a>(
 ) -> Result<Option<FirstForm>, NoMemory>
     ensures { IfOk result (λ found. found ≡ form_of (map lexeme_of tokens.now) (plain_of tree.now) entry.now) }
 {
-    let Some((name, threads, statements)) = head(tokens, tree, entry) else {
-        return Ok(None);
+    let (name, threads, statements) = match head(tokens, tree, entry) {
+        None => return Ok(None),
+        Some(head) => head,
     };
-    let Some(stores) = stores_with(alloc, tokens, name, statements)? else {
-        return Ok(None);
+    let stores = match stores_with(alloc, tokens, name, statements)? {
+        None => return Ok(None),
+        Some(stores) => stores,
     };
     let buffer = owned(alloc, name)?;
     let entry = Sequence::from_slice(alloc, entry)?;

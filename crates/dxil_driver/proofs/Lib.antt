@@ -12,5 +12,6 @@ pub mod Pushes
 pub mod Recognised
 pub mod Refused
 pub mod StoresLane
+pub mod TreeFaults
 pub mod TreeForms
 pub mod WordPlaces

@@ -1,21 +1,18 @@
-use Rattle.std.proofs.Common.{rules, ◌≡◌, ◌<◌, ◌≤◌, ◌⊎◌, length, IfOk, IfErr, OnOk, IsErrOf, ℕ, ◌+◌, ◌-◌, ◌*◌, ◌/◌, ◌%◌, Bool, true, false, nat_eq, nat_lt, List, [], ◌∷◌, ◌++◌, slice_index_or, slice_set, bit_and, bit_or, Fits, w8, w32, w64, Bor, MutBor}
+use mathlib.Core.Logic.{inl, inr}
+use Rattle.std.proofs.Common.{◌≡◌}
+use Rattle.std.specs.Prelude.{Result, Ok, Err, ◌⊎◌}
 use Rattle.hl_lexer.specs.Tokens.{lexemes_of}
-use Rattle.base_core.specs.declared.place.Place.{Place}
-use Rattle.hl_parser.specs.Trees as plain
 use Rattle.hl_parser.specs.Views.{plain_of}
-use Rattle.hl_parser.specs.declared.fault.ParseFault.{ParseFault}
-use Rattle.dxil_driver.specs.Compiled.{HasFirstForm, Compiled, most_source}
-use Rattle.dxil_driver.specs.CompileFaults.{GivesTree, HasFault, HasTreeFault, HaveFault, IsContainerOfTokens, IsContainerOfTree, NamesTreeFault, SpellForm}
-use Rattle.dxil_driver.specs.FirstForm.{IsForm}
-use Rattle.dxil_driver.specs.SourceText.{IsPlaceOf, SpellTree}
-use Rattle.dxil_driver.specs.declared.stores.FirstForm.{FirstForm}
+
 use Rattle.dxil_driver.specs.declared.compiler.CompileFault.{CompileFault}
+use Rattle.dxil_driver.proofs.Compiling.{tree_complete, tree_every, no_error}
 use Rattle.dxil_driver.proofs.compiler.compile_tokens.Goals as goal
 
--- src/compiler.rt:132:1
 pub returns-clause-complete : goal.returns-clause-complete
-returns-clause-complete c = ?
+returns-clause-complete c =
+    tree_complete (lexemes_of c.args.tokens.now) c.args.tokens.now.end c.args.entry.now (plain_of c.in_ok-tree.tree) c.in_ok-tree.ensures.every_tree c.compile_tree.result c.compile_tree.ensures.fault
 
--- src/compiler.rt:132:1
 pub returns-clause-every_fault : goal.returns-clause-every_fault
-returns-clause-every_fault c = ?
+returns-clause-every_fault c =
+    tree_every (lexemes_of c.args.tokens.now) c.args.tokens.now.end c.args.entry.now (plain_of c.in_ok-tree.tree) c.in_ok-tree.ensures.every_tree c.compile_tree.result
+    (λ fault place h. no_error (c.in_ok-tree.ensures.every_fault fault place h)) c.compile_tree.ensures.made c.compile_tree.ensures.fault

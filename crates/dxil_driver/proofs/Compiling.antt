@@ -69,6 +69,7 @@ module _ (text entry : List ℕ) (within : length text ≤ most_source) (fault :
   lex_every lists faults (Lex other) (less, first) = by_answer (faults other first) where
     same_err : (other : LexFault) → no_list fault ≡ no_list other → fault ≡ other
     same_err other e = cc
+
     by_answer : (no_list fault ≡ no_list other) ⊎ (no_list fault ≡ no_list NoRoomForTokens) → (of_tokens fault ≡ Lex other) ⊎ (of_tokens fault ≡ Memory)
     by_answer (inl e) = inl (ap of_tokens (same_err other e) ∙ fault_of text other first)
     by_answer (inr e) = inr (ap of_tokens (same_err NoRoomForTokens e))

@@ -1,4 +1,6 @@
 pub mod Assembled
+pub mod Chosen
+pub mod ChosenOnce
 pub mod Compiling
 pub mod Containers
 pub mod EmittedFacts
@@ -6,12 +8,14 @@ pub mod EmittedListed
 pub mod EmittedMetadata
 pub mod EmittedWhole
 pub mod Failing
+pub mod Matches
 pub mod OneAnswer
-pub mod OneWord
 pub mod Pushes
 pub mod Recognised
 pub mod Refused
+pub mod RefusedText
 pub mod StoresLane
 pub mod TreeFaults
 pub mod TreeForms
 pub mod WordPlaces
+pub mod Words

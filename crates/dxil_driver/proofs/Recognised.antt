@@ -15,7 +15,7 @@ use Rattle.hl_parser.specs.Views.{plain_trees}
 use Rattle.hl_parser.specs.Trees.{Tree, Trees, no_trees, more_trees, Maybe, absent, present, a_program, an_item, a_buffer, a_kind, a_function, a_result, an_attribute, a_block, a_stmt, a_postfix, a_primary, an_args}
 use Rattle.dxil_driver.specs.declared.stores.LiteralStore.{LiteralStore}
 use Rattle.dxil_driver.specs.declared.stores.FirstForm.{FirstForm}
-use Rattle.dxil_driver.specs.FirstForm.{AreItems, entry_alone, buffer_first, AreStores, HasStores, IsBuffer, IsEntry, IsForm, IsGroup, IsGroupSize, IsName, IsNumber, IsStore, IsWritten}
+use Rattle.dxil_driver.specs.FirstForm.{AreItems, entry_alone, buffer_first, AreStores, HasStores, IsBuffer, IsEntry, IsForm, IsGroup, IsGroupSize, IsNamed, IsLiteral, IsStore, HasBytes}
 use Rattle.dxil_driver.specs.Reading.{◌>>=◌, alone_or, arguments_of, attribute_of, behind_buffer, buffer_beside, buffer_of, call_of, declared_of, entry_of, form_of, function_of, has_bytes, head_of, is_group_size, is_void, item_of, items_of, kind_of, name_at, name_of, number_at, number_in, number_of, one_of, part_of, parts_of, sizes_of, statements_of, store_of, stores_of, stores_with, text_at, threads_of, three_of, token_of, two_of, without}
 
 -- ---- options
@@ -51,31 +51,31 @@ is_number (Number found unsigned) value e = (unsigned, ap (λ n. Number n unsign
 is_number (Mark number) value e = absurd (none-some value e)
 
 module _ (tokens : List Lexeme) where
-  written_is : (index : ℕ) (bytes : List ℕ) → text_at tokens index ≡ Some bytes → IsWritten tokens index bytes
+  written_is : (index : ℕ) (bytes : List ℕ) → text_at tokens index ≡ Some bytes → HasBytes tokens index bytes
   unfolding text_at
   written_is index bytes e =
       let s = bind_some (slice_get tokens index) (λ token. Some token.text) bytes e in
       record { token = s.0; stands = s.1; text = same_Some s.0.text bytes s.2 }
 
-  written_found : (index : ℕ) (bytes : List ℕ) → IsWritten tokens index bytes → text_at tokens index ≡ Some bytes
+  written_found : (index : ℕ) (bytes : List ℕ) → HasBytes tokens index bytes → text_at tokens index ≡ Some bytes
   unfolding text_at
   written_found index bytes h = rw h.stands (ap Some h.text)
 
-  name_is : (index : ℕ) (bytes : List ℕ) → name_at tokens index ≡ Some bytes → IsName tokens index bytes
+  name_is : (index : ℕ) (bytes : List ℕ) → name_at tokens index ≡ Some bytes → IsNamed tokens index bytes
   unfolding name_at
   name_is index bytes e =
       let s = bind_some (slice_get tokens index) (λ token. name_of token.kind token.text) bytes e in
       let named = is_name s.0.kind s.0.text bytes s.2 in
       record { token = s.0; stands = s.1; kind = named.0; text = named.1 }
 
-  name_found : (index : ℕ) (bytes : List ℕ) → IsName tokens index bytes → name_at tokens index ≡ Some bytes
+  name_found : (index : ℕ) (bytes : List ℕ) → IsNamed tokens index bytes → name_at tokens index ≡ Some bytes
   unfolding name_at
   name_found index bytes h = rw (h.stands, h.kind) (ap Some h.text)
 
-  is_named : (index : ℕ) (bytes : List ℕ) → has_bytes (name_at tokens index) bytes ≡ true → IsName tokens index bytes
+  is_named : (index : ℕ) (bytes : List ℕ) → has_bytes (name_at tokens index) bytes ≡ true → IsNamed tokens index bytes
   is_named index bytes e = name_is index bytes (same_bytes (name_at tokens index) bytes e)
 
-  named_found : (index : ℕ) (bytes : List ℕ) → IsName tokens index bytes → has_bytes (name_at tokens index) bytes ≡ true
+  named_found : (index : ℕ) (bytes : List ℕ) → IsNamed tokens index bytes → has_bytes (name_at tokens index) bytes ≡ true
   named_found index bytes h = bytes_same (name_at tokens index) bytes (name_found index bytes h)
 
 -- ---- forms of trees
@@ -187,7 +187,7 @@ unfolding is_group_size
 size_passes x y z h = rw (le-leb 1 x h.some_x, le-leb x 1024 h.most_x, le-leb 1 y h.some_y, le-leb y 1024 h.most_y, le-leb 1 z h.some_z, le-leb z 64 h.most_z, le-leb (x * y * z) 1024 h.most) refl
 
 module _ (tokens : List Lexeme) where
-  number_is : (tree : Tree) (value : ℕ) → number_in tokens tree ≡ Some value → IsNumber tokens tree value
+  number_is : (tree : Tree) (value : ℕ) → number_in tokens tree ≡ Some value → IsLiteral tokens tree value
   unfolding number_in number_at
   number_is tree value e =
       let s = bind_some (token_of tree) (number_at tokens) value e in
@@ -195,7 +195,7 @@ module _ (tokens : List Lexeme) where
       let n = is_number t.0.kind value t.2 in
       record { at = s.0; form = token_is tree s.0 s.1; token = t.0; stands = t.1; unsigned = n.0; kind = n.1 }
 
-  number_found : (tree : Tree) (value : ℕ) → IsNumber tokens tree value → number_in tokens tree ≡ Some value
+  number_found : (tree : Tree) (value : ℕ) → IsLiteral tokens tree value → number_in tokens tree ≡ Some value
   unfolding number_in number_at token_of
   number_found tree value h = rw (h.form, h.stands, h.kind) refl
 
@@ -392,7 +392,7 @@ module _ (tokens : List Lexeme) where
       let second = item_is two.0.1 function.0 function.1 in
       let beside = beside_is declared.0 entry name.0 name.1 in
       let form : a_program at items ≡ a_program at (more_trees (an_item first.0 declared.0) (more_trees (an_item second.0 function.0) no_trees)) =
-          ap (a_program at) (two_are items two.0 two.1 ∙ ap (λ t. more_trees t (more_trees two.0.1 no_trees)) first.1 ∙ ap (λ t. more_trees (an_item first.0 declared.0) (more_trees t no_trees)) second.1) in
+      ap (a_program at) (two_are items two.0 two.1 ∙ ap (λ t. more_trees t (more_trees two.0.1 no_trees)) first.1 ∙ ap (λ t. more_trees (an_item first.0 declared.0) (more_trees t no_trees)) second.1) in
       let is : AreItems tokens entry (a_program at items) (Some name.0) function.0 = buffer_first at first.0 second.0 declared.0 name.0 form beside.0 beside.1 refl in
       subst (ItemsOf entry (a_program at items)) (same_Some (Some name.0, function.0) found function.2) is
 
@@ -402,7 +402,7 @@ module _ (tokens : List Lexeme) where
       let function = bind_some (item_of only) (λ function. Some (None, function)) found e in
       let item = item_is only function.0 function.1 in
       let is : AreItems tokens entry (a_program at items) None function.0 =
-          entry_alone at item.0 (ap (a_program at) (one_is items only one ∙ ap (λ t. more_trees t no_trees) item.1)) refl in
+      entry_alone at item.0 (ap (a_program at) (one_is items only one ∙ ap (λ t. more_trees t no_trees) item.1)) refl in
       subst (ItemsOf entry (a_program at items)) (same_Some (None, function.0) found function.2) is
 
   abbrev parts_0 : List ℕ → Trees → Option (Option (List ℕ) × Tree)
@@ -459,11 +459,11 @@ module _ (tokens : List Lexeme) where
       let method = call_is part.0 call.0 call.1 in
       let inner = arguments_are call.0.2 arguments.0 arguments.1 in
       let form : tree ≡ a_stmt statement.0 (present (a_postfix method.0 (a_primary target.0 absent absent) method.1 (Some call.0.1) (present (an_args inner.0 (more_trees two.0.0 (more_trees two.0.1 no_trees)))))) =
-          statement.1
-          ∙ ap (λ t. a_stmt statement.0 (present t)) method.2
-          ∙ ap (λ t. a_stmt statement.0 (present (a_postfix method.0 t method.1 (Some call.0.1) (present call.0.2)))) (token_is call.0.0 target.0 target.1)
-          ∙ ap (λ t. a_stmt statement.0 (present (a_postfix method.0 (a_primary target.0 absent absent) method.1 (Some call.0.1) (present t)))) inner.1
-          ∙ ap (λ ts. a_stmt statement.0 (present (a_postfix method.0 (a_primary target.0 absent absent) method.1 (Some call.0.1) (present (an_args inner.0 ts))))) (two_are arguments.0 two.0 two.1) in
+      statement.1
+      ∙ ap (λ t. a_stmt statement.0 (present t)) method.2
+      ∙ ap (λ t. a_stmt statement.0 (present (a_postfix method.0 t method.1 (Some call.0.1) (present call.0.2)))) (token_is call.0.0 target.0 target.1)
+      ∙ ap (λ t. a_stmt statement.0 (present (a_postfix method.0 (a_primary target.0 absent absent) method.1 (Some call.0.1) (present t)))) inner.1
+      ∙ ap (λ ts. a_stmt statement.0 (present (a_postfix method.0 (a_primary target.0 absent absent) method.1 (Some call.0.1) (present (an_args inner.0 ts))))) (two_are arguments.0 two.0 two.1) in
       let is : IsStore tokens buffer tree (record { address = address.0; word = word.0 }) = record {
         at = statement.0;
         call = method.0;
@@ -533,9 +533,9 @@ module _ (tokens : List Lexeme) where
       let stores = bind_some (stores_with tokens head.0.0 head.0.2) (form_1 entry head.0) form head.2 in
       let same = same_Some (parts.0.0, found.0.0, found.0.1) head.0 found.2 in
       let entry-is : IsEntry tokens parts.0.1 entry head.0.1 head.0.2 =
-          subst (λ (p : Option (List ℕ) × List ℕ × Trees). IsEntry tokens parts.0.1 entry p.1 p.2) same (entry_is parts.0.1 entry found.0 found.1) in
+      subst (λ (p : Option (List ℕ) × List ℕ × Trees). IsEntry tokens parts.0.1 entry p.1 p.2) same (entry_is parts.0.1 entry found.0 found.1) in
       let items : AreItems tokens entry tree head.0.0 parts.0.1 =
-          subst (λ (p : Option (List ℕ) × List ℕ × Trees). AreItems tokens entry tree p.0 parts.0.1) same (parts_are tree entry parts.0 parts.1) in
+      subst (λ (p : Option (List ℕ) × List ℕ × Trees). AreItems tokens entry tree p.0 parts.0.1) same (parts_are tree entry parts.0 parts.1) in
       let is : IsForm tokens tree entry (record { entry = entry; buffer = head.0.0; threads = head.0.1; stores = stores.0 }) = record {
         function = parts.0.1;
         statements = head.0.2;

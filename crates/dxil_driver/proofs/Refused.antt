@@ -1,20 +1,21 @@
 -- An input that isn't refused isn't a reason to stop.
-use Rattle.std.proofs.Common.{◌≡◌, ℕ, ◌≤◌, List, length, refl, sym, ◌∙◌, subst, arith}
+use Rattle.std.proofs.Common.{◌≡◌, ℕ, ◌≤◌, List, length, refl, sym, ap, ◌∙◌, subst, arith}
 use mathlib.Core.Logic.{inl, inr}
 use Rattle.std.specs.Io.KnownBytes.{Keeps}
+use Rattle.base_core.specs.Counts.{HasRisen}
 use Rattle.std.specs.Prelude.{◌≢◌, IfErr, IfSome, None, Some, Result, Ok}
 use Rattle.std.specs.declared.option.Option.{Option}
 use Rattle.ir_core.specs.declared.module.Module.{Module}
 use Rattle.bc_stream.specs.declared.fault.StreamFault.TheVariants.{Bad as BadStream}
 use Rattle.bc_records.specs.declared.fault.RecordFault.TheVariants.{Bad as BadRecord}
 use Rattle.dxil_driver.specs.Check.{Fails, in_container, in_stream, in_records, in_module, NamesFault}
-use Rattle.dxil_driver.specs.Commands.{Accepts, IsRefusedText, Refuses, limit_of, most_container, words_of}
+use Rattle.dxil_driver.specs.Commands.{Accepts, Asks, IsRefusedText, Refuses, limit_of, most_container}
 use Rattle.dxil_driver.specs.Refusal.{status_of}
-use Rattle.dxil_driver.specs.Tool.{FailsNotes, IsStop, IsTold, Stands, StandsFor, TellsOf}
+use Rattle.dxil_driver.specs.Tool.{FailsNotes, IsDoneOrMemory, IsStop, IsTold, Stands, StandsFor, TellsOf}
 use Rattle.dxil_driver.specs.declared.checker.CheckFault.{CheckFault}
 use Rattle.dxil_driver.specs.declared.checker.CheckFault.TheVariants.{Container as BadContainer, Stream as BadBitcode, Records as BadBlocks, Rules as BadModule}
 use Rattle.dxil_driver.specs.declared.command.Command.{Command}
-use Rattle.dxil_driver.specs.declared.command.Command.TheVariants.{Compile, Check}
+use Rattle.dxil_driver.specs.declared.command.Command.TheVariants.{Check}
 use Rattle.dxil_driver.specs.declared.refusal.Refusal.{Refusal}
 use Rattle.dxil_driver.specs.declared.refusal.Refusal.TheVariants.{Usage, ReadFault, TooLong, BadByte, NumberTooLarge, TooManyTokens, Syntax, TooDeep, NotBuilt, Container, Stream, Records, Broken, Memory}
 use Rattle.dxil_driver.specs.declared.status.Status.{Status}
@@ -71,19 +72,6 @@ not_fault (Records kind block at) same = cc
 not_fault (Broken rule spot) same = cc
 not_fault Memory same = cc
 
--- two commands have other words
-
-other_text : words_of Compile ≡ words_of Check → ⊥
-other_text same = cc
-
-pub same_command : (one other : Command) → words_of one ≡ words_of other → one ≡ other
-same_command Compile Compile same = refl
-same_command Compile Check same =
-    absurd (other_text same)
-same_command Check Compile same =
-    absurd (other_text (sym same))
-same_command Check Check same = refl
-
 -- what is answered for all that was left
 pub completes : (command : Command) (left : Option (List ℕ)) (all input : List ℕ) (answer : Result (List ℕ) Refusal) → IfSome left (λ l. all ≡ l) → input ≡ all
     → (Accepts command input → IfErr answer (λ refusal. refusal ≡ Memory))
@@ -93,7 +81,7 @@ completes command (Some l) all input answer same is complete = λ within accepts
 
 -- the cause of a command's refusal is a cause for the words that ask for the command
 pub stands : {I : Type 0} (left : I → Option (List ℕ)) (taken faults : I → ℕ) (old new : I) (words : List (List ℕ)) (command : Command) (refusal : Refusal)
-    → words ≡ words_of command → StandsFor left taken old new faults command refusal → Stands left taken old new faults words refusal
+    → Asks words command → StandsFor left taken old new faults command refusal → Stands left taken old new faults words refusal
 stands left taken faults old new words command Usage asked cause = absurd cause
 stands left taken faults old new words command ReadFault asked cause = (command, asked, cause)
 stands left taken faults old new words command TooLong asked cause = (command, asked, cause)
@@ -133,3 +121,13 @@ module _ {I O N : Type 0} (left : I → Option (List ℕ)) (taken faults : I →
   fails_notes (inl (inr (same, cuts))) fault = (refusal, cause, cuts, keeps)
   fails_notes (inr (inl (same, appends))) fault = absurd (not_fault Memory (sym same ∙ fault))
   fails_notes (inr (inr (same, cuts))) fault = (Memory, tt, cuts, keeps)
+
+-- where memory alone can be refused, that is what was told, or the notes failed
+pub done_or_memory : {N : Type 0} (noted : N → Option (List ℕ)) (note_faults : N → ℕ) (old new : N) (refusal : Refusal) (answer : Status) (command : Command) (left : Option (List ℕ))
+    → IfSome left (λ all. length all ≤ limit_of command → Accepts command all → refusal ≡ Memory) → TellsOf noted note_faults old new refusal answer
+    → IfSome left (λ all. length all ≤ limit_of command → Accepts command all → IsDoneOrMemory answer (HasRisen (note_faults old) (note_faults new)))
+done_or_memory noted note_faults old new refusal answer command None complete told = tt
+done_or_memory noted note_faults old new refusal answer command (Some all) complete (inl (inl (same, appends))) = λ within accepts. inr (inl (same ∙ ap status_of (complete within accepts)))
+done_or_memory noted note_faults old new refusal answer command (Some all) complete (inl (inr (fault, cuts))) = λ within accepts. inr (inr (fault, cuts.1))
+done_or_memory noted note_faults old new refusal answer command (Some all) complete (inr (inl (same, appends))) = λ within accepts. inr (inl same)
+done_or_memory noted note_faults old new refusal answer command (Some all) complete (inr (inr (fault, cuts))) = λ within accepts. inr (inr (fault, cuts.1))

@@ -13,20 +13,20 @@ use Rattle.dxil_driver.specs.SourceText.{HasTree}
 -- ---- tokens of a tree
 
 -- the token at an index has these bytes
-pub record IsWritten (tokens : List Lexeme) (index : ℕ) (bytes : List ℕ) : Type 0 where
+pub record HasBytes (tokens : List Lexeme) (index : ℕ) (bytes : List ℕ) : Type 0 where
   pub token : Lexeme
   pub stands : slice_get tokens index ≡ Some token
   pub text : token.text ≡ bytes
 
 -- the token at an index is a name with these bytes
-pub record IsName (tokens : List Lexeme) (index : ℕ) (bytes : List ℕ) : Type 0 where
+pub record IsNamed (tokens : List Lexeme) (index : ℕ) (bytes : List ℕ) : Type 0 where
   pub token : Lexeme
   pub stands : slice_get tokens index ≡ Some token
   pub kind : token.kind ≡ Name
   pub text : token.text ≡ bytes
 
 -- an expression is a number alone, spelled in any way
-pub record IsNumber (tokens : List Lexeme) (tree : Tree) (value : ℕ) : Type 0 where
+pub record IsLiteral (tokens : List Lexeme) (tree : Tree) (value : ℕ) : Type 0 where
   pub at : ℕ
   pub form : tree ≡ a_primary at absent absent
   pub token : Lexeme
@@ -43,9 +43,9 @@ pub record IsBuffer (tokens : List Lexeme) (tree : Tree) (name : List ℕ) : Typ
   pub index : ℕ
   pub register : ℕ
   pub form : tree ≡ a_buffer at (a_kind word absent) index (Some register) None
-  pub kind : IsWritten tokens word (codes "RWByteAddressBuffer")
-  pub named : IsName tokens index name
-  pub first : IsName tokens register (codes "u0")
+  pub kind : HasBytes tokens word (codes "RWByteAddressBuffer")
+  pub named : IsNamed tokens index name
+  pub first : IsNamed tokens register (codes "u0")
 
 -- a program of the entry alone, or of a buffer before it that has another name
 pub data AreItems (tokens : List Lexeme) (entry : List ℕ) (tree : Tree) (buffer : Option (List ℕ)) (function : Tree) : Type 0 where
@@ -70,13 +70,13 @@ pub record IsGroup (tokens : List Lexeme) (attributes : Trees) (threads : List �
   pub second : Tree
   pub third : Tree
   pub form : attributes ≡ more_trees (an_attribute at index (more_trees first (more_trees second (more_trees third no_trees)))) no_trees
-  pub named : IsName tokens index (codes "numthreads")
+  pub named : IsNamed tokens index (codes "numthreads")
   pub x : ℕ
   pub y : ℕ
   pub z : ℕ
-  pub x-is : IsNumber tokens first x
-  pub y-is : IsNumber tokens second y
-  pub z-is : IsNumber tokens third z
+  pub x-is : IsLiteral tokens first x
+  pub y-is : IsLiteral tokens second y
+  pub z-is : IsLiteral tokens third z
   pub size : IsGroupSize x y z
   pub threads-are : threads ≡ x ∷ y ∷ z ∷ []
 
@@ -88,7 +88,7 @@ pub record IsEntry (tokens : List Lexeme) (tree : Tree) (entry threads : List �
   pub brace : ℕ
   pub attributes : Trees
   pub form : tree ≡ a_function at attributes (a_result void absent) index no_trees (a_block brace statements)
-  pub named : IsName tokens index entry
+  pub named : IsNamed tokens index entry
   pub group : IsGroup tokens attributes threads
 
 -- `NAME.Store(ADDRESS, WORD);`
@@ -102,10 +102,10 @@ pub record IsStore (tokens : List Lexeme) (buffer : List ℕ) (tree : Tree) (sto
   pub first : Tree
   pub second : Tree
   pub form : tree ≡ a_stmt at (present (a_postfix call (a_primary target absent absent) dot (Some method) (present (an_args parenthesis (more_trees first (more_trees second no_trees))))))
-  pub on : IsName tokens target buffer
-  pub named : IsName tokens method (codes "Store")
-  pub address : IsNumber tokens first store.address
-  pub word : IsNumber tokens second store.word
+  pub on : IsNamed tokens target buffer
+  pub named : IsNamed tokens method (codes "Store")
+  pub address : IsLiteral tokens first store.address
+  pub word : IsLiteral tokens second store.word
 
 -- each statement is a store to the buffer
 abbrev pub AreStores : List Lexeme → List ℕ → Trees → List LiteralStore → Type 0

@@ -7,6 +7,7 @@ pub mod FirstForm
 pub mod Kernel
 pub mod KernelMetadata
 pub mod LiteralLane
+pub mod Options
 pub mod Places
 pub mod Reading
 pub mod Refusal

@@ -44,7 +44,7 @@ abbrev pub line_at : Place → List ℕ → List ℕ
 line_at place text = decimal place.line ++ (codes ":" ++ (decimal place.column ++ (codes ": " ++ (text ++ line_feed))))
 
 abbrev pub line_of : Refusal → List ℕ
-line_of Usage = line (codes "usage: dxil_cli compile | check")
+line_of Usage = line (codes "usage: dxil_cli compile [--target cs_6_0] [--entry NAME] | check")
 line_of ReadFault = line (codes "error: read fault")
 line_of TooLong = line (codes "error: too long")
 line_of (BadByte place) = line_at place (codes "bad byte")

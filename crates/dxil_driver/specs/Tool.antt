@@ -3,7 +3,7 @@ use Rattle.std.specs.Prelude.{◌≡◌, ℕ, ◌+◌, ◌<◌, ◌≤◌, ◌�
 use Rattle.std.specs.Io.KnownBytes.{Appends, Consumes, IsAtEnd, Keeps}
 use Rattle.base_core.specs.Counts.{HasRisen}
 use Rattle.base_core.specs.Ends.{AppendsPart}
-use Rattle.dxil_driver.specs.Commands.{IsUsage, words_of, limit_of, Gives, Refuses}
+use Rattle.dxil_driver.specs.Commands.{Asks, IsUsage, limit_of, Gives, Refuses}
 use Rattle.dxil_driver.specs.Refusal.{status_of, line_of, write_fault_line}
 use Rattle.dxil_driver.specs.declared.command.Command.{Command}
 use Rattle.dxil_driver.specs.declared.status.Status.{Status}
@@ -45,7 +45,7 @@ module _ {I : Type 0} (left : I → Option (List ℕ)) (taken : I → ℕ) (old 
   abbrev pub Stands : (I → ℕ) → List (List ℕ) → Refusal → Type 0
   Stands faults words Usage = IsUsage words
   Stands faults words Memory = ⊤
-  Stands faults words refusal = (command : Command) × (words ≡ words_of command) × StandsFor faults command refusal
+  Stands faults words refusal = (command : Command) × Asks words command × StandsFor faults command refusal
 
 -- a sink failed in the text, and holds a front of it
 module _ {N : Type 0} (written : N → Option (List ℕ)) (faults : N → ℕ) (old new : N) where
@@ -70,7 +70,7 @@ module _ {I O N : Type 0} (left : I → Option (List ℕ)) (taken read_faults : 
   -- the output has what the command gives for all that was left, and the notes have nothing
   abbrev pub IsDone : Type 0
   IsDone =
-      ((command : Command) × (words ≡ words_of command) × ((bytes : List ℕ) × GivesAll left taken old_input new_input command bytes
+      ((command : Command) × Asks words command × ((bytes : List ℕ) × GivesAll left taken old_input new_input command bytes
       × Appends (written old_output) (written new_output) bytes)) × Keeps (noted old_notes) (noted new_notes)
 
   -- a refusal that stands has this status, its line was written whole, and the output has nothing
@@ -88,7 +88,7 @@ module _ {I O N : Type 0} (left : I → Option (List ℕ)) (taken read_faults : 
   -- the output failed in what the command gives for all that was left, and the notes have the line of that, or failed in it
   abbrev pub FailsOutput : (O → ℕ) → (N → ℕ) → Type 0
   FailsOutput write_faults note_faults =
-      ((command : Command) × (words ≡ words_of command) × ((bytes : List ℕ) × GivesAll left taken old_input new_input command bytes
+      ((command : Command) × Asks words command × ((bytes : List ℕ) × GivesAll left taken old_input new_input command bytes
       × Cuts written write_faults old_output new_output bytes))
       × WritesOrCuts noted note_faults old_notes new_notes write_fault_line
 

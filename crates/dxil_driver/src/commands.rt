@@ -5,7 +5,7 @@ ghost use Rattle.std.specs.Prelude.{◌≡◌, ◌≢◌, ◌≤◌, ◌⊎◌, 
 ghost use Rattle.std.specs.Io.KnownBytes.{Appends, Keeps};
 ghost use Rattle.base_core.specs.Counts.{HasRisen};
 ghost use Rattle.base_core.specs.Ends.{AppendsPart};
-ghost use Rattle.dxil_driver.specs.Commands.{Accepts, Gives, IsRefusedText, IsUsage, Refuses, limit_of, most_container, ok_line, words_of};
+ghost use Rattle.dxil_driver.specs.Commands.{Accepts, Asks, Gives, IsRefusedText, IsUsage, Refuses, limit_of, most_container, ok_line};
 ghost use Rattle.dxil_driver.specs.Compiled.{most_source};
 ghost use Rattle.dxil_driver.specs.Refusal.{status_of, line_of, write_fault_line};
 ghost use Rattle.dxil_driver.specs.Tool.{Cuts, FailsNotes, FailsOutput, GivesAll, IsBadInput, IsDone, IsDoneOrMemory, IsStop, IsTold, IsTooLong, Stands, StandsFor, Tells, TellsOf, WritesOrCuts};
@@ -15,10 +15,10 @@ ghost use Rattle.dxil_driver.specs.declared.refusal.Refusal.{Refusal};
 use crate::checker::check;
 use crate::command::Command;
 use crate::compiler::compile;
-use crate::options::{Options, Target};
+use crate::options::Options;
 use crate::refusal::Refusal;
 use crate::status::Status;
-use base_core::{Bytes, Sink, Source, Text, read_whole, write_whole};
+use base_core::{Bytes, Sink, Source, read_whole, write_whole};
 use std::alloc::Global;
 
 /// What is printed for a container that passes.
@@ -43,18 +43,14 @@ fn write_fault() -> &'static [u8]
 }
 
 /// The container of a source.
-fn compile_input(alloc: Global, text: &[u8]) -> Result<Bytes, Refusal>
+fn compile_input(alloc: Global, text: &[u8], options: &Options) -> Result<Bytes, Refusal>
     requires { length text.now ≤ most_source }
-    ensures gives { IfOk result (λ bytes. Gives Command.Compile text.now bytes) }
-    ensures cause { IfErr result (λ refusal. (refusal ≡ Refusal.Memory) ⊎ Refuses Command.Compile text.now refusal) }
-    ensures accepted { OnOk result (¬ IsRefusedText Command.Compile text.now) }
-    ensures complete { Accepts Command.Compile text.now → IfErr result (λ refusal. refusal ≡ Refusal.Memory) }
+    ensures gives { IfOk result (λ bytes. Gives (Command.Compile options.now) text.now bytes) }
+    ensures cause { IfErr result (λ refusal. (refusal ≡ Refusal.Memory) ⊎ Refuses (Command.Compile options.now) text.now refusal) }
+    ensures accepted { OnOk result (¬ IsRefusedText (Command.Compile options.now) text.now) }
+    ensures complete { Accepts (Command.Compile options.now) text.now → IfErr result (λ refusal. refusal ≡ Refusal.Memory) }
 {
-    let options = Options {
-        entry: Text::from_slice(alloc, b"main")?,
-        target: Target::Cs60,
-    };
-    let bytes = compile(alloc, text, &options)?;
+    let bytes = compile(alloc, text, options)?;
     Ok(bytes)
 }
 
@@ -72,26 +68,26 @@ fn check_input(alloc: Global, bytes: &[u8]) -> Result<Bytes, Refusal>
 }
 
 /// What a command writes for its whole input.
-fn answer(alloc: Global, command: Command, input: &[u8]) -> Result<Bytes, Refusal>
-    requires { length input.now ≤ limit_of command }
-    ensures gives { IfOk result (λ bytes. Gives command input.now bytes) }
-    ensures cause { IfErr result (λ refusal. (refusal ≡ Refusal.Memory) ⊎ Refuses command input.now refusal) }
-    ensures accepted { OnOk result (¬ IsRefusedText command input.now) }
-    ensures complete { Accepts command input.now → IfErr result (λ refusal. refusal ≡ Refusal.Memory) }
+fn answer(alloc: Global, command: &Command, input: &[u8]) -> Result<Bytes, Refusal>
+    requires { length input.now ≤ limit_of command.now }
+    ensures gives { IfOk result (λ bytes. Gives command.now input.now bytes) }
+    ensures cause { IfErr result (λ refusal. (refusal ≡ Refusal.Memory) ⊎ Refuses command.now input.now refusal) }
+    ensures accepted { OnOk result (¬ IsRefusedText command.now input.now) }
+    ensures complete { Accepts command.now input.now → IfErr result (λ refusal. refusal ≡ Refusal.Memory) }
 {
     match command {
-        Command::Compile => compile_input(alloc, input),
+        Command::Compile(options) => compile_input(alloc, input, options),
         Command::Check => check_input(alloc, input),
     }
 }
 
 /// What a command writes for what the input gives.
-fn run<I: Source>(alloc: Global, command: Command, input: &mut I) -> Result<Bytes, Refusal>
-    ensures gives { IfOk result (GivesAll I.left I.taken input.old input.new command) }
-    ensures cause { IfErr result (StandsFor I.left I.taken input.old input.new I.faults command) }
-    ensures accepted { OnOk result (IfSome (I.left input.old) (λ all. ¬ IsRefusedText command all)) }
+fn run<I: Source>(alloc: Global, command: &Command, input: &mut I) -> Result<Bytes, Refusal>
+    ensures gives { IfOk result (GivesAll I.left I.taken input.old input.new command.now) }
+    ensures cause { IfErr result (StandsFor I.left I.taken input.old input.new I.faults command.now) }
+    ensures accepted { OnOk result (IfSome (I.left input.old) (λ all. ¬ IsRefusedText command.now all)) }
     ensures complete { ¬ HasRisen (I.faults input.old) (I.faults input.new)
-        → IfSome (I.left input.old) (λ all. length all ≤ limit_of command → Accepts command all → IfErr result (λ refusal. refusal ≡ Refusal.Memory)) }
+        → IfSome (I.left input.old) (λ all. length all ≤ limit_of command.now → Accepts command.now all → IfErr result (λ refusal. refusal ≡ Refusal.Memory)) }
 {
     let all = read_whole(alloc, input, command.limit())?;
     answer(alloc, command, all.as_slice())
@@ -153,7 +149,7 @@ pub fn tool<I: Source, O: Sink, N: Sink>(
     // Each other answer has its cause.
     ensures usage { result ≡ Status.Usage → IsUsage (map string_bytes words.now) }
     ensures read_fault { result ≡ Status.ReadFault → HasRisen (I.faults input.old) (I.faults input.new) }
-    ensures refused { result ≡ Status.Refused → (command : Command) × (map string_bytes words.now ≡ words_of command)
+    ensures refused { result ≡ Status.Refused → (command : Command) × Asks (map string_bytes words.now) command
         × (IsTooLong I.left I.taken input.old input.new command
         ⊎ ((refusal : Refusal) × IsBadInput I.left I.taken input.old input.new command refusal)) }
     ensures write_fault { result ≡ Status.WriteFault →
@@ -170,18 +166,19 @@ pub fn tool<I: Source, O: Sink, N: Sink>(
     // Where a refusal stands, no other end comes.
     ensures other_words { IsUsage (map string_bytes words.now)
         → (result ≡ Status.Usage) ⊎ ((result ≡ Status.Memory) ⊎ (result ≡ Status.WriteFault)) }
-    ensures refusals { (command : Command) → map string_bytes words.now ≡ words_of command
+    ensures refusals { (command : Command) → Asks (map string_bytes words.now) command
         → IfSome (I.left input.old) (λ all. IsRefusedText command all → IsStop result) }
 
     // An input that is accepted has its result written, unless memory is refused.
-    ensures complete { (command : Command) → map string_bytes words.now ≡ words_of command
+    ensures complete { (command : Command) → Asks (map string_bytes words.now) command
         → ¬ HasRisen (I.faults input.old) (I.faults input.new) → ¬ HasRisen (O.faults output.old) (O.faults output.new)
         → IfSome (I.left input.old) (λ all. length all ≤ limit_of command → Accepts command all
         → IsDoneOrMemory result (HasRisen (N.faults notes.old) (N.faults notes.new))) }
 {
-    match Command::from_words(words) {
-        None => refuse(alloc, notes, Refusal::Usage),
-        Some(command) => match run(alloc, command, input) {
+    match Command::from_words(alloc, words) {
+        Err(_refused) => refuse(alloc, notes, Refusal::Memory),
+        Ok(None) => refuse(alloc, notes, Refusal::Usage),
+        Ok(Some(command)) => match run(alloc, &command, input) {
             Ok(bytes) => deliver(output, notes, bytes.as_slice()),
             Err(refusal) => refuse(alloc, notes, refusal),
         },

@@ -10,8 +10,8 @@ ghost use Rattle.dxil_driver.specs.Reading.{Reads, behind_buffer, buffer_beside,
 
 use crate::stores::{FirstForm, LiteralStore, LiteralStores};
 use crate::tree_parts::{
-    arguments, attribute, buffer, call, function, is_void, item, items, kind, one, part, statements,
-    three, token, two,
+    arguments, attribute, buffer, call, function, is_void, item, items, kind, one, part,
+    statements, three, token, two,
 };
 use base_core::{NoMemory, Sequence, Text};
 use hl_lexer::{Token, TokenKind, Tokens};

@@ -80,7 +80,9 @@ impl Refusal {
         ensures { IfOk result (λ line. string_bytes line ≡ line_of self) }
     {
         match self {
-            Refusal::Usage => format!(in alloc; "usage: dxil_cli compile | check\n"),
+            Refusal::Usage => format!(in alloc;
+                "usage: dxil_cli compile [--target cs_6_0] [--entry NAME] | check\n"
+            ),
             Refusal::ReadFault => format!(in alloc; "error: read fault\n"),
             Refusal::TooLong => format!(in alloc; "error: too long\n"),
             Refusal::BadByte(Place { line, column }) => {

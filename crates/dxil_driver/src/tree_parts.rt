@@ -188,7 +188,9 @@ pub fn attribute(tree: &Tree) -> Option<(usize, &[Tree])>
 {
     match tree {
         Tree::Attribute {
-            name, arguments, ..
+            name,
+            arguments,
+            ..
         } => Some((*name, arguments.as_slice())),
         _ => None,
     }

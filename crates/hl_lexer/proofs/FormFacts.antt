@@ -38,7 +38,7 @@ form_begins (Word number) b bs after h = letter_sort b (word_begins number b bs 
 form_begins (Number value unsigned) b bs after h = digit_sort b (number_begins b bs value unsigned h.0)
 form_begins (Mark number) b bs after h = mark_begins number b bs h
 
-name_run : (bytes : List ℕ) → IsName bytes → AllPass is_word_byte bytes
+pub name_run : (bytes : List ℕ) → IsName bytes → AllPass is_word_byte bytes
 name_run [] h = absurd h
 name_run (b ∷ bs) h = All-cons (λ c. is_word_byte c ≡ true) b bs (or_left (is_letter b) _ h.0) h.1
 
@@ -65,7 +65,7 @@ same_sort : (j k : TokenKind) (bytes after : List ℕ) → IsForm j bytes after 
 same_sort j k [] after h g = absurd (form_some j after h)
 same_sort j k (b ∷ bs) after h g = sym (form_begins j b bs after h) ∙ form_begins k b bs after g
 
-no_name : (number : ℕ) (bytes : List ℕ) → IsName bytes → IsWord number bytes → ⊥
+pub no_name : (number : ℕ) (bytes : List ℕ) → IsName bytes → IsWord number bytes → ⊥
 no_name number [] h g = h
 no_name number (b ∷ bs) h g = h.2 number g
 

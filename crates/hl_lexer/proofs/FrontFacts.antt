@@ -40,7 +40,7 @@ class_space false false true o e = refl
 class_space false false false None e = cc
 class_space false false false (Some n) e = cc
 
-letter_from_class : (b : ℕ) → class_of b ≡ Letter → is_letter b ≡ true
+pub letter_from_class : (b : ℕ) → class_of b ≡ Letter → is_letter b ≡ true
 letter_from_class b e = class_letter (is_letter b) (is_ascii_digit b) (is_space_byte b) (number_in marks (b ∷ [])) e
 
 class_digit : (letter digit space : Bool) (o : Option ℕ) → cond letter Letter (cond digit Digit (cond space Space (mark_class o))) ≡ Digit → digit ≡ true
@@ -141,7 +141,7 @@ word_token rest n number some e run word = record {
   room = tt;
 }
 
-name_form : (bytes : List ℕ) → 0 < length bytes → is_letter (slice_index bytes 0) ≡ true → AllPass is_word_byte bytes → ((number : ℕ) → ¬ IsWord number bytes) → IsName bytes
+pub name_form : (bytes : List ℕ) → 0 < length bytes → is_letter (slice_index bytes 0) ≡ true → AllPass is_word_byte bytes → ((number : ℕ) → ¬ IsWord number bytes) → IsName bytes
 name_form [] some letter run no_word = absurd (omega arith)
 name_form (b ∷ bs) some letter run no_word = (letter, All-tail (λ c. is_word_byte c ≡ true) b bs run, no_word)
 

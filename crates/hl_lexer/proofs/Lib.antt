@@ -8,6 +8,7 @@ pub mod LawFacts
 pub mod ListedFacts
 pub mod Lists
 pub mod MarkFacts
+pub mod NameFacts
 pub mod NumberFacts
 pub mod PartFacts
 pub mod PieceFacts

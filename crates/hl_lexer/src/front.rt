@@ -90,7 +90,7 @@ fn mark(single: u8, rest: &[u8]) -> Front
 }
 
 /// How many letters, digits and `_` a text begins with.
-fn word_length(rest: &[u8]) -> usize
+pub(crate) fn word_length(rest: &[u8]) -> usize
     ensures within { result ≤ length rest.now }
     ensures run { AllPass is_word_byte (take result rest.now) }
     ensures end { Ends is_word_byte (drop result rest.now) }

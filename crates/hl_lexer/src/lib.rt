@@ -6,6 +6,7 @@ mod fault;
 mod front;
 pub mod laws;
 mod mark;
+mod name;
 mod number;
 mod reader;
 mod space;
@@ -16,6 +17,7 @@ mod token;
 mod word;
 
 pub use fault::LexFault;
+pub use name::is_name;
 pub use reader::lex;
 pub use terminal::Terminal;
 pub use token::{Token, TokenKind, Tokens};

@@ -2,7 +2,7 @@
 
 ghost use Rattle.std.specs.Prelude.{◌^◌, ◌<◌, length};
 
-use crate::{LexFault, Terminal, TokenKind, laws, lex};
+use crate::{LexFault, Terminal, TokenKind, is_name, laws, lex};
 use base_core::Place;
 use std::test::Fail;
 
@@ -184,6 +184,16 @@ fn reads_at_most_262144_tokens(rt: HostRuntime) -> Result<(), Fail> {
         }
     }
     Ok(())
+}
+
+#[test]
+fn tells_names_from_other_texts(rt: HostRuntime) {
+    for text in [b"a".as_slice(), b"_", b"iff", b"u0", b"A1_b"] {
+        assert!(rt; is_name(text));
+    }
+    for text in [b"".as_slice(), b"if", b"1a", b"a b", b"a-", b"\xc3\xa4"] {
+        assert!(rt; !is_name(text));
+    }
 }
 
 #[test]

@@ -1,5 +1,6 @@
 //! What `check` prints for the container of a kernel, and for parts of it.
 
+use crate::containers::options;
 use base_core::{Bytes, Calls, MemorySink, PlainSource};
 use dxil_driver::{Status, compile, tool};
 use std::process::Abort;
@@ -11,7 +12,9 @@ const KERNEL: &[u8] =
 
 /// The container of the kernel.
 fn container(rt: &HostRuntime) -> Result<Bytes, Fail> {
-    let bytes = compile(rt.alloc(), KERNEL).ok().ok_or("no container")?;
+    let bytes = compile(rt.alloc(), KERNEL, &options(rt)?)
+        .ok()
+        .ok_or("no container")?;
     Ok(bytes)
 }
 

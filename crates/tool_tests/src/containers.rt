@@ -1,7 +1,17 @@
 //! Containers of small kernels, by their bytes as the formats give them.
 
-use dxil_driver::{CompileFault, compile};
+use base_core::Text;
+use dxil_driver::{CompileFault, Options, Target, compile};
 use std::test::Fail;
+
+/// Options with the entry `main`.
+pub(crate) fn options(rt: &HostRuntime) -> Result<Options, Fail> {
+    let entry = Text::from_slice(rt.alloc(), b"main")?;
+    Ok(Options {
+        entry,
+        target: Target::Cs60,
+    })
+}
 
 /// A kernel of two stores.
 const TWO_STORES: &[u8] =
@@ -9,9 +19,13 @@ const TWO_STORES: &[u8] =
 
 #[test]
 fn an_empty_kernel_has_its_container(rt: HostRuntime) -> Result<(), Fail> {
-    let container = compile(rt.alloc(), b"[numthreads(1,1,1)] void main() {}")
-        .ok()
-        .ok_or("no container")?;
+    let container = compile(
+        rt.alloc(),
+        b"[numthreads(1,1,1)] void main() {}",
+        &options(&rt)?,
+    )
+    .ok()
+    .ok_or("no container")?;
     let bytes = container.as_slice();
     assert!(rt; bytes.len() > 140);
     assert_eq!(rt; &bytes[..4], b"DXBC".as_slice());
@@ -42,7 +56,7 @@ fn an_empty_kernel_has_its_container(rt: HostRuntime) -> Result<(), Fail> {
 
 #[test]
 fn literal_stores_compile(rt: HostRuntime) -> Result<(), Fail> {
-    assert!(rt; compile(rt.alloc(), TWO_STORES).is_ok());
+    assert!(rt; compile(rt.alloc(), TWO_STORES, &options(&rt)?).is_ok());
     Ok(())
 }
 
@@ -53,9 +67,10 @@ fn other_texts_are_not_built(rt: HostRuntime) -> Result<(), Fail> {
         b"",
         b"[numthreads(1,1,1)] void main() {} // a comment",
     ];
+    let options = options(&rt)?;
     for text in texts {
         assert_eq!(rt;
-            compile(rt.alloc(), text).err(),
+            compile(rt.alloc(), text, &options).err(),
             Some(CompileFault::Unbuilt)
         );
     }

@@ -15,7 +15,16 @@ struct Run {
 
 fn sink(rt: &HostRuntime, failing: &[u64]) -> Result<MemorySink, Fail> {
     let failing = Calls::from_slice(rt.alloc(), failing)?;
-    Ok(MemorySink::new(rt.alloc(), 64, 3, failing)?)
+    Ok(MemorySink::new(rt.alloc(), 128, 3, failing)?)
+}
+
+/// The words of a command line.
+fn owned(rt: &HostRuntime, words: &[&str]) -> Result<Vec<String>, Fail> {
+    let mut owned = Vec::new(rt.alloc());
+    for word in words {
+        owned.push(String::from_str(rt.alloc(), word)?)?;
+    }
+    Ok(owned)
 }
 
 fn run_tool<I: Source>(
@@ -24,13 +33,10 @@ fn run_tool<I: Source>(
     input: &mut I,
     failing_notes: &[u64],
 ) -> Result<Run, Fail> {
-    let mut owned = Vec::new(rt.alloc());
-    for word in words {
-        owned.push(String::from_str(rt.alloc(), word)?)?;
-    }
+    let words = owned(rt, words)?;
     let mut output = sink(rt, &[])?;
     let mut notes = sink(rt, failing_notes)?;
-    let status = tool(rt.alloc(), &owned, input, &mut output, &mut notes);
+    let status = tool(rt.alloc(), &words, input, &mut output, &mut notes);
     Ok(Run {
         status,
         output,
@@ -46,7 +52,25 @@ fn assert_refused(rt: &impl Abort, run: &Run, status: Status, line: &[u8]) {
 
 #[test]
 fn other_words_are_answered_with_the_usage(rt: HostRuntime) -> Result<(), Fail> {
-    let lists: [&[&str]; 3] = [&[], &["compil"], &["compile", "compile"]];
+    let lists: [&[&str]; 17] = [
+        &[],
+        &["compil"],
+        &["compile", "compile"],
+        &["compile", "--entry"],
+        &["compile", "--entry", ""],
+        &["compile", "--entry", "if"],
+        &["compile", "--entry", "1a"],
+        &["compile", "--entry", "a-b"],
+        &["compile", "--target", "cs_6_2"],
+        &["compile", "--target", "cs_6_0", "--entry"],
+        &["compile", "--entry", "a", "--entry", "b"],
+        &["compile", "--target", "cs_6_0", "--target", "cs_6_0"],
+        &["compile", "--entry", "a", "--target", "cs_6_0", "x"],
+        &["--entry", "a", "compile"],
+        &["check", "check"],
+        &["check", "--entry", "a"],
+        &["check", "--target", "cs_6_0"],
+    ];
     for words in lists {
         let mut input = PlainSource::new(Bytes::new(rt.alloc()));
         let run = run_tool(&rt, words, &mut input, &[])?;
@@ -54,7 +78,7 @@ fn other_words_are_answered_with_the_usage(rt: HostRuntime) -> Result<(), Fail> 
             &rt,
             &run,
             Status::Usage,
-            b"usage: dxil_cli compile | check\n",
+            b"usage: dxil_cli compile [--target cs_6_0] [--entry NAME] | check\n",
         );
     }
     Ok(())
@@ -100,8 +124,7 @@ const EMPTY_KERNEL: &[u8] = b"[numthreads(1,1,1)] void main() {}";
 
 #[test]
 fn an_output_that_fails_has_a_front_of_the_container(rt: HostRuntime) -> Result<(), Fail> {
-    let mut words = Vec::new(rt.alloc());
-    words.push(String::from_str(rt.alloc(), "compile")?)?;
+    let words = owned(&rt, &["compile"])?;
     let mut input = PlainSource::new(Bytes::from_slice(rt.alloc(), EMPTY_KERNEL)?);
     let mut output = sink(&rt, &[1])?;
     let mut notes = sink(&rt, &[])?;
@@ -113,15 +136,31 @@ fn an_output_that_fails_has_a_front_of_the_container(rt: HostRuntime) -> Result<
 }
 
 #[test]
-fn a_kernel_is_compiled(rt: HostRuntime) -> Result<(), Fail> {
-    let mut words = Vec::new(rt.alloc());
-    words.push(String::from_str(rt.alloc(), "compile")?)?;
+fn a_kernel_is_compiled_by_each_form_of_the_words(rt: HostRuntime) -> Result<(), Fail> {
+    let lists: [&[&str]; 5] = [
+        &["compile"],
+        &["compile", "--target", "cs_6_0"],
+        &["compile", "--entry", "main"],
+        &["compile", "--target", "cs_6_0", "--entry", "main"],
+        &["compile", "--entry", "main", "--target", "cs_6_0"],
+    ];
+    for words in lists {
+        let words = owned(&rt, words)?;
+        let mut input = PlainSource::new(Bytes::from_slice(rt.alloc(), EMPTY_KERNEL)?);
+        let mut output = MemorySink::new(rt.alloc(), 4096, 4096, Calls::new(rt.alloc()))?;
+        let mut notes = sink(&rt, &[])?;
+        let status = tool(rt.alloc(), &words, &mut input, &mut output, &mut notes);
+        assert_eq!(rt; status, Status::Done);
+        assert!(rt; output.written().len() > 128);
+        assert_eq!(rt; notes.written().len(), 0);
+    }
+    Ok(())
+}
+
+#[test]
+fn a_kernel_without_the_entry_is_not_built(rt: HostRuntime) -> Result<(), Fail> {
     let mut input = PlainSource::new(Bytes::from_slice(rt.alloc(), EMPTY_KERNEL)?);
-    let mut output = MemorySink::new(rt.alloc(), 4096, 4096, Calls::new(rt.alloc()))?;
-    let mut notes = sink(&rt, &[])?;
-    let status = tool(rt.alloc(), &words, &mut input, &mut output, &mut notes);
-    assert_eq!(rt; status, Status::Done);
-    assert!(rt; output.written().len() > 128);
-    assert_eq!(rt; notes.written().len(), 0);
+    let run = run_tool(&rt, &["compile", "--entry", "mainly"], &mut input, &[])?;
+    assert_refused(&rt, &run, Status::Refused, b"error: not built\n");
     Ok(())
 }

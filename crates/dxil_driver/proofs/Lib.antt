@@ -10,6 +10,7 @@ pub mod EmittedWhole
 pub mod Failing
 pub mod Matches
 pub mod OneAnswer
+pub mod OneForm
 pub mod Pushes
 pub mod Recognised
 pub mod Refused

@@ -552,6 +552,10 @@ module _ (tokens : List Lexeme) where
       rw (parts_found tree entry form.buffer h.function h.items, entry_found h.function entry form.threads h.statements h.entry-is, stores_found form.buffer h.statements form.stores h.stores)
       (ap (λ (name : List ℕ). Some (record { entry = name; buffer = form.buffer; threads = form.threads; stores = form.stores })) (sym h.same))
 
+  -- a tree has at most one first form
+  pub same_form : (tree : Tree) (entry : List ℕ) (one other : FirstForm) → IsForm tokens tree entry one → IsForm tokens tree entry other → one ≡ other
+  same_form tree entry one other is is' = same_Some one other (sym (form_found tree entry one is) ∙ form_found tree entry other is')
+
   -- what the recogniser answers
   pub is_found : (tree : Tree) (entry : List ℕ) (r : Result (Option FirstForm) NoMemory) → IfOk r (λ found. found ≡ form_of tokens tree entry) → IfOk r (λ found. IfSome found (IsForm tokens tree entry))
   is_found tree entry (Ok None) read = tt

@@ -140,3 +140,7 @@ pub record IsFirstForm (text entry : List ℕ) (form : FirstForm) : Type 0 where
 -- stores are there only with a buffer
 abbrev pub HasBuffer : Option (List ℕ) → List LiteralStore → Type 0
 HasBuffer buffer stores = buffer ≡ None → stores ≡ []
+
+-- a text has at most one first form for an entry of a name
+abbrev pub AtMostOneFirstForm : Type 0
+AtMostOneFirstForm = (text entry : List ℕ) (one other : FirstForm) → IsFirstForm text entry one → IsFirstForm text entry other → one ≡ other

@@ -8,6 +8,7 @@ pub mod compiler;
 mod container;
 mod emit;
 mod kernel_form;
+pub mod laws;
 pub mod options;
 pub mod refusal;
 pub mod status;

@@ -96,19 +96,75 @@ fn an_input_that_fails_is_a_read_fault(rt: HostRuntime) -> Result<(), Fail> {
     Ok(())
 }
 
+/// Pieces one after the other, each so many times.
+fn repeated(rt: &HostRuntime, pieces: &[(&[u8], usize)]) -> Result<Bytes, Fail> {
+    let mut text = Bytes::new(rt.alloc());
+    for (piece, times) in pieces {
+        for _ in 0..*times {
+            text.extend_from_slice(piece)?;
+        }
+    }
+    Ok(text)
+}
+
+/// The line that a source is refused with.
+fn assert_line(rt: &HostRuntime, text: Bytes, line: &[u8]) -> Result<(), Fail> {
+    let run = run_tool(rt, &["compile"], &mut PlainSource::new(text), &[])?;
+    assert_refused(rt, &run, Status::Refused, line);
+    Ok(())
+}
+
 #[test]
 fn texts_are_refused(rt: HostRuntime) -> Result<(), Fail> {
-    let long = vec![in rt.alloc(); b' '; 1048577]?;
-    let texts: [(&[u8], &[u8]); 2] = [
-        (long.as_slice(), b"error: too long\n"),
+    let texts: [(&[u8], &[u8]); 6] = [
+        (b"", b"1:1: syntax\n"),
+        (b"4294967296", b"1:1: number too large\n"),
+        (b"void f() { /* }", b"1:12: bad byte\n"),
+        (b"void f() {\n\tint if;\n}", b"2:6: syntax\n"),
         (b"void f() {}", b"error: not built\n"),
+        (b"[numthreads(1,1,1)] void main() { ; }", b"error: not built\n"),
     ];
     for (text, line) in texts {
-        let mut input = PlainSource::new(Bytes::from_slice(rt.alloc(), text)?);
-        let run = run_tool(&rt, &["compile"], &mut input, &[])?;
-        assert_refused(&rt, &run, Status::Refused, line);
+        assert_line(&rt, Bytes::from_slice(rt.alloc(), text)?, line)?;
     }
     Ok(())
+}
+
+#[test]
+fn texts_about_a_limit_are_refused(rt: HostRuntime) -> Result<(), Fail> {
+    assert_line(
+        &rt,
+        repeated(&rt, &[(b" ", 1048577)])?,
+        b"error: too long\n",
+    )?;
+    assert_line(
+        &rt,
+        repeated(&rt, &[(b" ", 1048576)])?,
+        b"1:1048577: syntax\n",
+    )?;
+    assert_line(
+        &rt,
+        repeated(&rt, &[(b";", 262145)])?,
+        b"error: too many tokens\n",
+    )
+}
+
+#[test]
+fn texts_that_are_nested_too_deep_are_refused(rt: HostRuntime) -> Result<(), Fail> {
+    let parentheses: [(&[u8], usize); 4] = [
+        (b"void f() { x = ", 1),
+        (b"(", 100),
+        (b"1", 1),
+        (b")", 100),
+    ];
+    let mut text = repeated(&rt, &parentheses)?;
+    text.extend_from_slice(b"; }")?;
+    assert_line(&rt, text, b"error: too deep\n")?;
+    let mut text = repeated(&rt, &parentheses)?;
+    text.extend_from_slice(b"; ")?;
+    assert_line(&rt, text, b"1:219: syntax\n")?;
+    let sum: [(&[u8], usize); 3] = [(b"void f() { x = 1", 1), (b" + 1", 99), (b"; }", 1)];
+    assert_line(&rt, repeated(&rt, &sum)?, b"error: too deep\n")
 }
 
 #[test]

@@ -107,11 +107,9 @@ fn repeated(rt: &HostRuntime, pieces: &[(&[u8], usize)]) -> Result<Bytes, Fail> 
     Ok(text)
 }
 
-/// The line that a source is refused with.
-fn assert_line(rt: &HostRuntime, text: Bytes, line: &[u8]) -> Result<(), Fail> {
-    let run = run_tool(rt, &["compile"], &mut PlainSource::new(text), &[])?;
-    assert_refused(rt, &run, Status::Refused, line);
-    Ok(())
+/// How a source is refused.
+fn compile_run(rt: &HostRuntime, text: Bytes) -> Result<Run, Fail> {
+    run_tool(rt, &["compile"], &mut PlainSource::new(text), &[])
 }
 
 #[test]
@@ -122,49 +120,56 @@ fn texts_are_refused(rt: HostRuntime) -> Result<(), Fail> {
         (b"void f() { /* }", b"1:12: bad byte\n"),
         (b"void f() {\n\tint if;\n}", b"2:6: syntax\n"),
         (b"void f() {}", b"error: not built\n"),
-        (b"[numthreads(1,1,1)] void main() { ; }", b"error: not built\n"),
+        (
+            b"[numthreads(1,1,1)] void main() { ; }",
+            b"error: not built\n",
+        ),
     ];
     for (text, line) in texts {
-        assert_line(&rt, Bytes::from_slice(rt.alloc(), text)?, line)?;
+        let run = compile_run(&rt, Bytes::from_slice(rt.alloc(), text)?)?;
+        assert_refused(&rt, &run, Status::Refused, line);
     }
     Ok(())
 }
 
 #[test]
 fn texts_about_a_limit_are_refused(rt: HostRuntime) -> Result<(), Fail> {
-    assert_line(
-        &rt,
-        repeated(&rt, &[(b" ", 1048577)])?,
-        b"error: too long\n",
-    )?;
-    assert_line(
-        &rt,
-        repeated(&rt, &[(b" ", 1048576)])?,
-        b"1:1048577: syntax\n",
-    )?;
-    assert_line(
-        &rt,
-        repeated(&rt, &[(b";", 262145)])?,
-        b"error: too many tokens\n",
-    )
+    let texts: [(&[u8], usize, &[u8]); 3] = [
+        (b" ", 1048577, b"error: too long\n"),
+        (b" ", 1048576, b"1:1048577: syntax\n"),
+        (b";", 262145, b"error: too many tokens\n"),
+    ];
+    for (piece, times, line) in texts {
+        let run = compile_run(&rt, repeated(&rt, &[(piece, times)])?)?;
+        assert_refused(&rt, &run, Status::Refused, line);
+    }
+    Ok(())
 }
 
 #[test]
 fn texts_that_are_nested_too_deep_are_refused(rt: HostRuntime) -> Result<(), Fail> {
-    let parentheses: [(&[u8], usize); 4] = [
-        (b"void f() { x = ", 1),
-        (b"(", 100),
-        (b"1", 1),
-        (b")", 100),
+    let parentheses: [(&[u8], &[u8]); 2] = [
+        (b"; }", b"error: too deep\n"),
+        (b"; ", b"1:219: syntax\n"),
     ];
-    let mut text = repeated(&rt, &parentheses)?;
-    text.extend_from_slice(b"; }")?;
-    assert_line(&rt, text, b"error: too deep\n")?;
-    let mut text = repeated(&rt, &parentheses)?;
-    text.extend_from_slice(b"; ")?;
-    assert_line(&rt, text, b"1:219: syntax\n")?;
-    let sum: [(&[u8], usize); 3] = [(b"void f() { x = 1", 1), (b" + 1", 99), (b"; }", 1)];
-    assert_line(&rt, repeated(&rt, &sum)?, b"error: too deep\n")
+    for (end, line) in parentheses {
+        let text = repeated(
+            &rt,
+            &[
+                (b"void f() { x = ", 1),
+                (b"(", 100),
+                (b"1", 1),
+                (b")", 100),
+                (end, 1),
+            ],
+        )?;
+        let run = compile_run(&rt, text)?;
+        assert_refused(&rt, &run, Status::Refused, line);
+    }
+    let sum = repeated(&rt, &[(b"void f() { x = 1", 1), (b" + 1", 99), (b"; }", 1)])?;
+    let run = compile_run(&rt, sum)?;
+    assert_refused(&rt, &run, Status::Refused, b"error: too deep\n");
+    Ok(())
 }
 
 #[test]

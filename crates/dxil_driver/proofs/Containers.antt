@@ -8,8 +8,6 @@ use Rattle.bc_records.specs.Records.{Recorded, OneModule}
 use Rattle.dx_container.specs.Container.{written_form}
 use Rattle.dx_container.specs.Laws.{AtMostOneContent, WrittenIsContained}
 use Rattle.dxil_driver.specs.declared.stores.FirstForm.{FirstForm}
-use Rattle.dxil_driver.specs.declared.stores.LiteralStore.{LiteralStore}
-use Rattle.dxil_driver.specs.FirstForm.{HasBuffer}
 use Rattle.dxil_driver.specs.Compiled.{Spells, IsContainerOf}
 use Rattle.dxil_driver.specs.Kernel.{IsKernelOf, RecordsKernel, SpellsKernel}
 
@@ -45,10 +43,3 @@ written_container form bitcode contents written lists modules small (blocks, spe
 -- blocks that record the module of a kernel
 pub RecordsKernel-from : (form : FirstForm) (m : Module) (view : Contents) → IsKernelOf form m → Recorded view m → RecordsKernel form view
 RecordsKernel-from form m view kernel recorded = (m, kernel, recorded)
-
--- without a buffer there are no stores
-pub no_stores : (buffer : Option (List ℕ)) (stores : List LiteralStore) → HasBuffer buffer stores → buffer ≡ None → stores ≡ []
-no_stores None stores h e = h
-no_stores (Some name) stores h e = absurd (some_is_none e) where
-  some_is_none : Some name ≡ None → ⊥
-  some_is_none e = cc

@@ -1,6 +1,7 @@
 pub mod Assembled
 pub mod Chosen
 pub mod ChosenOnce
+pub mod Compiling
 pub mod Containers
 pub mod EmittedFacts
 pub mod EmittedListed
@@ -9,12 +10,13 @@ pub mod EmittedWhole
 pub mod Failing
 pub mod Matches
 pub mod OneAnswer
-pub mod Parts
+pub mod OneForm
 pub mod Pushes
 pub mod Recognised
 pub mod Refused
-pub mod Scanned
-pub mod Statements
+pub mod RefusedText
 pub mod StoresLane
+pub mod TreeFaults
+pub mod TreeForms
 pub mod WordPlaces
 pub mod Words

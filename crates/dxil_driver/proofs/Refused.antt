@@ -17,7 +17,7 @@ use Rattle.dxil_driver.specs.declared.checker.CheckFault.TheVariants.{Container 
 use Rattle.dxil_driver.specs.declared.command.Command.{Command}
 use Rattle.dxil_driver.specs.declared.command.Command.TheVariants.{Check}
 use Rattle.dxil_driver.specs.declared.refusal.Refusal.{Refusal}
-use Rattle.dxil_driver.specs.declared.refusal.Refusal.TheVariants.{Usage, ReadFault, TooLong, NotBuilt, Container, Stream, Records, Broken, Memory}
+use Rattle.dxil_driver.specs.declared.refusal.Refusal.TheVariants.{Usage, ReadFault, TooLong, BadByte, NumberTooLarge, TooManyTokens, Syntax, TooDeep, NotBuilt, Container, Stream, Records, Broken, Memory}
 use Rattle.dxil_driver.specs.declared.status.Status.{Status}
 use Rattle.dxil_driver.specs.declared.status.Status.TheVariants.{WriteFault}
 
@@ -31,6 +31,11 @@ refuses_fails : (bytes : List ℕ) (refusal : Refusal) → Refuses Check bytes r
 refuses_fails bytes Usage r = absurd r
 refuses_fails bytes ReadFault r = absurd r
 refuses_fails bytes TooLong r = absurd r
+refuses_fails bytes (BadByte place) r = absurd r
+refuses_fails bytes (NumberTooLarge place) r = absurd r
+refuses_fails bytes TooManyTokens r = absurd r
+refuses_fails bytes (Syntax place) r = absurd r
+refuses_fails bytes TooDeep r = absurd r
 refuses_fails bytes NotBuilt r = absurd r
 refuses_fails bytes Memory r = absurd r
 refuses_fails bytes (Container fault) r = (BadContainer fault, in_container fault r)
@@ -55,6 +60,11 @@ not_fault : (refusal : Refusal) → status_of refusal ≢ WriteFault
 not_fault Usage same = cc
 not_fault ReadFault same = cc
 not_fault TooLong same = cc
+not_fault (BadByte place) same = cc
+not_fault (NumberTooLarge place) same = cc
+not_fault TooManyTokens same = cc
+not_fault (Syntax place) same = cc
+not_fault TooDeep same = cc
 not_fault NotBuilt same = cc
 not_fault (Container fault) same = cc
 not_fault (Stream kind bit) same = cc
@@ -75,6 +85,11 @@ pub stands : {I : Type 0} (left : I → Option (List ℕ)) (taken faults : I →
 stands left taken faults old new words command Usage asked cause = absurd cause
 stands left taken faults old new words command ReadFault asked cause = (command, asked, cause)
 stands left taken faults old new words command TooLong asked cause = (command, asked, cause)
+stands left taken faults old new words command (BadByte place) asked cause = (command, asked, cause)
+stands left taken faults old new words command (NumberTooLarge place) asked cause = (command, asked, cause)
+stands left taken faults old new words command TooManyTokens asked cause = (command, asked, cause)
+stands left taken faults old new words command (Syntax place) asked cause = (command, asked, cause)
+stands left taken faults old new words command TooDeep asked cause = (command, asked, cause)
 stands left taken faults old new words command NotBuilt asked cause = (command, asked, cause)
 stands left taken faults old new words command (Container fault) asked cause = (command, asked, cause)
 stands left taken faults old new words command (Stream kind bit) asked cause = (command, asked, cause)

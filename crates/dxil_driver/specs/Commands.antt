@@ -1,16 +1,21 @@
 -- The commands: the words that ask for each, what it takes, and what it gives.
 use Rattle.std.specs.Prelude.{◌≡◌, ◌⊎◌, ◌<◌, ℕ, List, [], ◌∷◌, length, codes}
 use Rattle.ir_core.specs.declared.module.Module.{Module}
+use Rattle.hl_lexer.specs.Tokens.{IsFirstFault}
+use Rattle.hl_lexer.specs.declared.fault.LexFault.TheVariants.{BadByte as NoToken, NumberTooLarge as LargeNumber, TooManyTokens as MoreTokens}
 use Rattle.dx_container.specs.Container.{FaultIs}
 use Rattle.dxil_driver.specs.Check.{HasStreamFault, HasRecordFault, HasVerdict, Passes}
 use Rattle.dxil_driver.specs.Compiled.{most_source, HasFirstForm, Compiled}
+use Rattle.dxil_driver.specs.CompileFaults.{HasTokensFault}
 use Rattle.dxil_driver.specs.Options.{Chooses}
 use Rattle.dxil_driver.specs.Refusal.{line}
+use Rattle.dxil_driver.specs.SourceText.{HasSyntaxFault, IsTooDeep}
 use Rattle.dxil_driver.specs.declared.command.Command.{Command}
 use Rattle.dxil_driver.specs.declared.command.Command.TheVariants.{Compile, Check}
+use Rattle.dxil_driver.specs.declared.compiler.CompileFault.TheVariants.{Unbuilt}
 use Rattle.dxil_driver.specs.declared.options.Options.{Options}
 use Rattle.dxil_driver.specs.declared.refusal.Refusal.{Refusal}
-use Rattle.dxil_driver.specs.declared.refusal.Refusal.TheVariants.{NotBuilt, Container, Stream, Records, Broken}
+use Rattle.dxil_driver.specs.declared.refusal.Refusal.TheVariants.{BadByte, NumberTooLarge, TooManyTokens, Syntax, TooDeep, NotBuilt, Container, Stream, Records, Broken}
 
 -- the words ask for a command: `compile` and its options, or `check` alone
 pub data Asks : List (List ℕ) → Command → Type 0 where
@@ -46,7 +51,12 @@ Accepts Check bytes = (m : Module) × Passes bytes m
 
 -- a whole input that is refused for what it says
 abbrev pub Refuses : Command → (input : List ℕ) → Refusal → Type 0
-Refuses (Compile options) text NotBuilt = ¬ HasFirstForm text options.entry
+Refuses (Compile options) text (BadByte place) = IsFirstFault text (NoToken place)
+Refuses (Compile options) text (NumberTooLarge place) = IsFirstFault text (LargeNumber place)
+Refuses (Compile options) text TooManyTokens = IsFirstFault text MoreTokens
+Refuses (Compile options) text (Syntax place) = HasSyntaxFault text place
+Refuses (Compile options) text TooDeep = IsTooDeep text
+Refuses (Compile options) text NotBuilt = HasTokensFault text options.entry Unbuilt
 Refuses Check bytes (Container fault) = FaultIs bytes fault.kind fault.offset
 Refuses Check bytes (Stream kind bit) = HasStreamFault bytes kind bit
 Refuses Check bytes (Records kind block at) = HasRecordFault bytes kind block at

@@ -22,9 +22,9 @@ use Rattle.dxil_driver.specs.LiteralLane.{literal_stores}
 abbrev pub most_source : ℕ
 most_source = 1048576
 
--- the text is of the form that is compiled so far, with this entry
+-- the text is of the form that is compiled so far, with an entry of this name
 unfoldable pub HasFirstForm : (text entry : List ℕ) → Type 0
-HasFirstForm text entry = (form : FirstForm) × IsFirstForm text form × (form.entry ≡ entry)
+HasFirstForm text entry = (form : FirstForm) × IsFirstForm text entry form
 
 -- the bytes contain a bitcode that spells blocks that record the module
 pub record Spells (bytes : List ℕ) (m : Module) : Type 0 where
@@ -49,14 +49,13 @@ pub record IsContainerOf (form : FirstForm) (m : Module) (bytes : List ℕ) : Ty
   pub metadata : HasMetadata m (kernel_resources form.buffer) (kernel_threads form.threads) form.entry
   pub same : SameLane (literal_stores form.stores) (module_lane m)
 
--- the text is a kernel with this entry, and the bytes are its container
+-- the text is a kernel with an entry of this name, and the bytes are its container
 pub record IsKernelsContainer (text entry bytes : List ℕ) : Type 0 where
   pub form : FirstForm
-  pub is_form : IsFirstForm text form
-  pub is_entry : form.entry ≡ entry
+  pub is_form : IsFirstForm text entry form
   pub kernel : Module
   pub container : IsContainerOf form kernel bytes
 
--- the bytes are what the text is compiled to with this entry
+-- the bytes are what the text is compiled to, with an entry of this name
 unfoldable pub Compiled : (text entry bytes : List ℕ) → Type 0
 Compiled text entry bytes = IsKernelsContainer text entry bytes

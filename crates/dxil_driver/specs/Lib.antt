@@ -1,5 +1,6 @@
 pub mod Check
 pub mod Commands
+pub mod CompileFaults
 pub mod Compiled
 pub mod Emitted
 pub mod FirstForm
@@ -10,5 +11,5 @@ pub mod Options
 pub mod Places
 pub mod Reading
 pub mod Refusal
-pub mod Tokens
+pub mod SourceText
 pub mod Tool

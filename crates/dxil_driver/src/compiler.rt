@@ -1,15 +1,25 @@
 //! From a text to a container.
 
-ghost use Rattle.std.specs.Prelude.{◌≡◌, ◌<◌, ◌≤◌, ◌⊎◌, length, IfNone, IfOk, IfSome, OnOk, IsErrOf};
-ghost use Rattle.dxil_driver.specs.Compiled.{most_source, HasFirstForm, Compiled};
-ghost use Rattle.dxil_driver.specs.FirstForm.{IsFirstForm};
+ghost use Rattle.std.specs.Prelude.{◌≡◌, ◌<◌, ◌≤◌, ◌⊎◌, length, IfOk, IfErr, OnOk, IsErrOf};
+ghost use Rattle.hl_lexer.specs.Tokens.{lexemes_of};
+ghost use Rattle.base_core.specs.declared.place.Place.{Place};
+ghost use Rattle.hl_parser.specs.Trees as plain;
+ghost use Rattle.hl_parser.specs.Views.{plain_of};
+ghost use Rattle.hl_parser.specs.declared.fault.ParseFault.{ParseFault};
+ghost use Rattle.dxil_driver.specs.Compiled.{HasFirstForm, Compiled, most_source};
+ghost use Rattle.dxil_driver.specs.CompileFaults.{GivesTree, HasFault, HasTreeFault, HaveFault, IsContainerOfTokens, IsContainerOfTree, NamesTreeFault, SpellForm};
+ghost use Rattle.dxil_driver.specs.FirstForm.{IsForm};
+ghost use Rattle.dxil_driver.specs.SourceText.{IsPlaceOf, SpellTree};
+ghost use Rattle.dxil_driver.specs.declared.stores.FirstForm.{FirstForm};
+ghost use Rattle.dxil_driver.specs.declared.compiler.CompileFault.{CompileFault};
 
 use crate::command::MOST_SOURCE;
 use crate::container::kernel_container;
-use crate::first_form::{first_form, one_form};
+use crate::kernel_form::first_form;
 use crate::options::Options;
-use crate::stores::FirstForm;
-use base_core::{Bytes, NoMemory};
+use base_core::{Bytes, NoMemory, Place};
+use hl_lexer::{LexFault, Tokens, lex};
+use hl_parser::{ParseFault, Tree, parse};
 use std::alloc::Global;
 
 /// Why a text isn't compiled.
@@ -17,7 +27,12 @@ use std::alloc::Global;
 pub enum CompileFault {
     /// The text has more than 1048576 bytes.
     TooLong,
-    /// The text isn't of the form that is compiled so far.
+    /// The text has no tokens. The fault isn't `Memory`.
+    Lex(LexFault),
+    /// The tokens spell no tree, or one that is too deep. The fault isn't `Memory`. The place is that of the token at
+    /// the index of the fault, or of the end of the text, and the start of the text where the tree is too deep.
+    Parse { fault: ParseFault, place: Place },
+    /// The tree isn't of the form that is compiled so far.
     Unbuilt,
     /// Memory was refused.
     Memory,
@@ -34,49 +49,125 @@ impl From<NoMemory> for CompileFault {
     }
 }
 
-/// The first form of a text, where its entry has this name.
-#[tactic(auto, unfolding(crate::specs::Compiled::HasFirstForm))]
-fn form_with_entry(alloc: Global, text: &[u8], entry: &[u8]) -> Result<Option<FirstForm>, NoMemory>
-    ensures found { IfOk result (λ found. IfSome found (λ form. IsFirstForm text.now form × (form.entry ≡ entry.now))) }
-    ensures none { IfOk result (λ found. IfNone found (¬ HasFirstForm text.now entry.now)) }
-{
-    one_form();
-    match first_form(alloc, text)? {
-        None => Ok(None),
-        Some(form) => {
-            if form.entry.as_slice() == entry {
-                Ok(Some(form))
-            } else {
-                Ok(None)
-            }
+impl From<LexFault> for CompileFault {
+    ghost use Rattle.std.specs.Prelude.{◌≡◌};
+    ghost use Rattle.dxil_driver.specs.CompileFaults.{of_tokens};
+
+    ghost from_gives = { λ fault answer. answer ≡ of_tokens fault };
+
+    fn from(fault: LexFault) -> CompileFault {
+        match fault {
+            LexFault::Memory => CompileFault::Memory,
+            _ => CompileFault::Lex(fault),
         }
     }
 }
 
-/// The container of the text, whose entry has the name that the options give.
+/// Where every text begins.
+const START: Place = Place { line: 1, column: 1 };
+
+/// The place of a token, or of the end where the index is the number of tokens.
+fn place_of<'a>(tokens: &Tokens<'a>, at: usize) -> Place
+    requires { at ≤ length (lexemes_of tokens.now) }
+    ensures { IsPlaceOf (lexemes_of tokens.now) tokens.now.end at result }
+{
+    match tokens.list.get(at) {
+        Some(token) => token.place,
+        None => tokens.end,
+    }
+}
+
+/// The tree of tokens.
 ///
 /// # Errors
-/// `TooLong` exactly above 1048576 bytes, `Unbuilt` exactly where a text within that length isn't of the
-/// first form with this entry, and `Memory`, to which both yield. So a first form with this entry within that
-/// length gives `Ok` or `Memory`.
-#[tactic(auto, unfolding(crate::specs::Compiled::HasFirstForm, crate::specs::Compiled::Compiled))]
-pub fn compile(alloc: Global, text: &[u8], options: &Options) -> Result<Bytes, CompileFault>
-    ensures compiled { IfOk result (λ bytes. Compiled text.now options.now.entry bytes) }
-    ensures accepted { OnOk result ((length text.now ≤ most_source) × HasFirstForm text.now options.now.entry) }
-    ensures too_long { IsErrOf result CompileFault.TooLong → most_source < length text.now }
-    ensures unbuilt { IsErrOf result CompileFault.Unbuilt → (length text.now ≤ most_source) × (¬ HasFirstForm text.now options.now.entry) }
-    ensures long { most_source < length text.now → IsErrOf result CompileFault.TooLong ⊎ IsErrOf result CompileFault.Memory }
-    ensures other { length text.now ≤ most_source → ¬ HasFirstForm text.now options.now.entry
-        → IsErrOf result CompileFault.Unbuilt ⊎ IsErrOf result CompileFault.Memory }
+/// `Parse` exactly where the tokens have that fault at that place, and `Memory`, to which it yields.
+fn read_tree<'a>(alloc: Global, tokens: &Tokens<'a>) -> Result<Tree, CompileFault>
+    ensures tree { IfOk result (λ tree. SpellTree (lexemes_of tokens.now) (plain_of tree)) }
+    ensures every_tree { (tree : plain.Tree) → SpellTree (lexemes_of tokens.now) tree → GivesTree result tree }
+    ensures fault { IfErr result (NamesTreeFault (lexemes_of tokens.now) tokens.now.end) }
+    ensures every_fault { (fault : ParseFault) (place : Place) → HasTreeFault (lexemes_of tokens.now) tokens.now.end fault place
+        → IsErrOf result (CompileFault.Parse fault place) ⊎ IsErrOf result CompileFault.Memory }
 {
-    if text.len() > MOST_SOURCE {
-        return Err(CompileFault::TooLong);
+    match parse(alloc, tokens) {
+        Ok(tree) => Ok(tree),
+        Err(ParseFault::Syntax { at }) => Err(CompileFault::Parse {
+            fault: ParseFault::Syntax { at },
+            place: place_of(tokens, at),
+        }),
+        Err(ParseFault::TooDeep) => Err(CompileFault::Parse {
+            fault: ParseFault::TooDeep,
+            place: START,
+        }),
+        Err(ParseFault::Memory) => Err(CompileFault::Memory),
     }
-    match form_with_entry(alloc, text, options.entry.as_slice())? {
+}
+
+/// The container of a tree of tokens.
+///
+/// # Errors
+/// `Unbuilt` exactly where the tree is no first form for an entry of this name, and `Memory`, to which it yields.
+fn compile_tree<'a>(
+    alloc: Global,
+    tokens: &Tokens<'a>,
+    tree: &Tree,
+    entry: &[u8],
+) -> Result<Bytes, CompileFault>
+    ensures made { IfOk result (IsContainerOfTree (lexemes_of tokens.now) (plain_of tree.now) entry.now) }
+    ensures fault { IfErr result (λ fault. (fault ≡ CompileFault.Memory)
+        ⊎ ((fault ≡ CompileFault.Unbuilt) × ((form : FirstForm) → ¬ IsForm (lexemes_of tokens.now) (plain_of tree.now) entry.now form))) }
+{
+    match first_form(alloc, tokens, tree, entry)? {
         None => Err(CompileFault::Unbuilt),
         Some(form) => {
             let bytes = kernel_container(alloc, &form)?;
             Ok(bytes)
         }
     }
+}
+
+/// The container of what tokens spell.
+///
+/// # Errors
+/// `Parse` and `Unbuilt` exactly where the tokens have that fault, and `Memory`, to which these yield.
+fn compile_tokens<'a>(
+    alloc: Global,
+    tokens: &Tokens<'a>,
+    entry: &[u8],
+) -> Result<Bytes, CompileFault>
+    ensures made { IfOk result (IsContainerOfTokens (lexemes_of tokens.now) entry.now) }
+    ensures complete { SpellForm (lexemes_of tokens.now) entry.now → IfErr result (λ fault. fault ≡ CompileFault.Memory) }
+    ensures fault { IfErr result (λ fault. (fault ≡ CompileFault.Memory) ⊎ HaveFault (lexemes_of tokens.now) tokens.now.end entry.now fault) }
+    ensures every_fault { (fault : CompileFault) → HaveFault (lexemes_of tokens.now) tokens.now.end entry.now fault
+        → IsErrOf result fault ⊎ IsErrOf result CompileFault.Memory }
+{
+    let tree = read_tree(alloc, tokens)?;
+    compile_tree(alloc, tokens, &tree, entry)
+}
+
+/// The container of the text.
+///
+/// # Errors
+/// Each fault exactly where the text has it, and `Memory`, to which all others yield. A text has `TooLong` above
+/// 1048576 bytes; within that length `Lex` where it has no tokens, `Parse` where its tokens spell no tree or one that
+/// is too deep, and `Unbuilt` where its tree isn't of the first form for an entry of the name in the options. So a
+/// first form within that length gives `Ok` or `Memory`.
+#[tactic(auto, unfolding(crate::specs::Compiled::HasFirstForm, crate::specs::Compiled::Compiled))]
+pub fn compile(alloc: Global, text: &[u8], options: &Options) -> Result<Bytes, CompileFault>
+    // What is answered is a container of a text that is accepted.
+    ensures compiled { IfOk result (λ bytes. Compiled text.now options.now.entry bytes) }
+    ensures accepted { OnOk result ((length text.now ≤ most_source) × HasFirstForm text.now options.now.entry) }
+
+    // A text that is accepted has its container answered, unless memory runs out.
+    ensures complete { length text.now ≤ most_source → HasFirstForm text.now options.now.entry → IfErr result (λ fault. fault ≡ CompileFault.Memory) }
+
+    // A fault that is answered is there, and one that is there is answered, unless memory runs out.
+    ensures fault { IfErr result (λ fault. (fault ≡ CompileFault.Memory) ⊎ HasFault text.now options.now.entry fault) }
+    ensures every_fault { (fault : CompileFault) → HasFault text.now options.now.entry fault
+        → IsErrOf result fault ⊎ IsErrOf result CompileFault.Memory }
+{
+    if text.len() > MOST_SOURCE {
+        return Err(CompileFault::TooLong);
+    }
+    let tokens = lex(alloc, text)?;
+    compile_tokens(alloc, &tokens, options.entry.as_slice())
 }

@@ -7,12 +7,13 @@ pub mod commands;
 pub mod compiler;
 mod container;
 mod emit;
-mod first_form;
+mod kernel_form;
+pub mod laws;
 pub mod options;
 pub mod refusal;
-mod scan;
 pub mod status;
 mod stores;
+mod tree_parts;
 
 pub use checker::{CheckFault, check};
 pub use command::Command;

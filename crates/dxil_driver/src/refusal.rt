@@ -6,10 +6,12 @@ ghost use Rattle.dxil_driver.specs.Refusal.{status_of, line_of, refusal_of_stop,
 use crate::checker::CheckFault;
 use crate::compiler::CompileFault;
 use crate::status::Status;
-use base_core::{NoMemory, ReadStop};
+use base_core::{NoMemory, Place, ReadStop};
 use bc_records::RecordFault;
 use bc_stream::StreamFault;
 use dx_container::ContainerFault;
+use hl_lexer::LexFault;
+use hl_parser::ParseFault;
 use ir_core::Spot;
 use std::alloc::{AllocError, Global};
 
@@ -23,6 +25,16 @@ pub enum Refusal {
     ReadFault,
     /// The input has more bytes than the command takes.
     TooLong,
+    /// No token of the source begins at this place.
+    BadByte(Place),
+    /// The number at this place is above 4294967295.
+    NumberTooLarge(Place),
+    /// The source has more than 262144 tokens.
+    TooManyTokens,
+    /// The source is no program: its tokens through the one at this place begin none, or it ends there too early.
+    Syntax(Place),
+    /// The source is nested too deep.
+    TooDeep,
     /// The source isn't of the form that is compiled so far.
     NotBuilt,
     /// The bytes are no container.
@@ -47,6 +59,11 @@ impl Refusal {
             Refusal::ReadFault => Status::ReadFault,
             Refusal::Memory => Status::Memory,
             Refusal::TooLong
+            | Refusal::BadByte(_)
+            | Refusal::NumberTooLarge(_)
+            | Refusal::TooManyTokens
+            | Refusal::Syntax(_)
+            | Refusal::TooDeep
             | Refusal::NotBuilt
             | Refusal::Container(_)
             | Refusal::Stream { .. }
@@ -68,6 +85,17 @@ impl Refusal {
             ),
             Refusal::ReadFault => format!(in alloc; "error: read fault\n"),
             Refusal::TooLong => format!(in alloc; "error: too long\n"),
+            Refusal::BadByte(Place { line, column }) => {
+                format!(in alloc; "{line}:{column}: bad byte\n")
+            }
+            Refusal::NumberTooLarge(Place { line, column }) => {
+                format!(in alloc; "{line}:{column}: number too large\n")
+            }
+            Refusal::TooManyTokens => format!(in alloc; "error: too many tokens\n"),
+            Refusal::Syntax(Place { line, column }) => {
+                format!(in alloc; "{line}:{column}: syntax\n")
+            }
+            Refusal::TooDeep => format!(in alloc; "error: too deep\n"),
             Refusal::NotBuilt => format!(in alloc; "error: not built\n"),
             Refusal::Container(ContainerFault { kind, offset }) => {
                 format!(in alloc; "error: container {kind} at {offset}\n")
@@ -114,8 +142,24 @@ impl From<CompileFault> for Refusal {
     fn from(fault: CompileFault) -> Refusal {
         match fault {
             CompileFault::TooLong => Refusal::TooLong,
+            CompileFault::Lex(LexFault::BadByte(place)) => Refusal::BadByte(place),
+            CompileFault::Lex(LexFault::NumberTooLarge(place)) => Refusal::NumberTooLarge(place),
+            CompileFault::Lex(LexFault::TooManyTokens) => Refusal::TooManyTokens,
+            CompileFault::Parse {
+                fault: ParseFault::Syntax { .. },
+                place,
+            } => Refusal::Syntax(place),
+            CompileFault::Parse {
+                fault: ParseFault::TooDeep,
+                ..
+            } => Refusal::TooDeep,
             CompileFault::Unbuilt => Refusal::NotBuilt,
-            CompileFault::Memory => Refusal::Memory,
+            CompileFault::Lex(LexFault::Memory)
+            | CompileFault::Parse {
+                fault: ParseFault::Memory,
+                ..
+            }
+            | CompileFault::Memory => Refusal::Memory,
         }
     }
 }

@@ -17,6 +17,10 @@ pub(crate) fn options(rt: &HostRuntime) -> Result<Options, Fail> {
 const TWO_STORES: &[u8] =
     b"RWByteAddressBuffer o : register(u0); [numthreads(1,1,1)] void main() { o.Store(0, 7); o.Store(4, 4294967295); }";
 
+/// The same kernel, with a comment and other spellings of its numbers.
+const SPELLED_OTHERWISE: &[u8] =
+    b"RWByteAddressBuffer o : register(u0); [numthreads(01,0x1,1u)] void main() { o.Store(0, /* seven */ 0x7); o.Store(04, 0xFFFFFFFFu); }";
+
 #[test]
 fn an_empty_kernel_has_its_container(rt: HostRuntime) -> Result<(), Fail> {
     let container = compile(
@@ -61,11 +65,27 @@ fn literal_stores_compile(rt: HostRuntime) -> Result<(), Fail> {
 }
 
 #[test]
+fn spellings_and_comments_say_the_same(rt: HostRuntime) -> Result<(), Fail> {
+    let options = options(&rt)?;
+    let one = compile(rt.alloc(), TWO_STORES, &options)
+        .ok()
+        .ok_or("no container")?;
+    let other = compile(rt.alloc(), SPELLED_OTHERWISE, &options)
+        .ok()
+        .ok_or("no container")?;
+    assert!(rt; one.as_slice() == other.as_slice());
+    Ok(())
+}
+
+#[test]
 fn other_texts_are_not_built(rt: HostRuntime) -> Result<(), Fail> {
-    let texts: [&[u8]; 3] = [
-        b"void f() {}",
-        b"",
-        b"[numthreads(1,1,1)] void main() {} // a comment",
+    let texts: [&[u8]; 6] = [
+        b"[numthreads(1,1,1)] void main() { o.Store(0, 7); }",
+        b"[numthreads(1024,2,1)] void main() {}",
+        b"[numthreads(1,1,65)] void main() {}",
+        b"RWByteAddressBuffer main : register(u0); [numthreads(1,1,1)] void main() {}",
+        b"RWByteAddressBuffer o : register(u0, space0); [numthreads(1,1,1)] void main() {}",
+        b"RWByteAddressBuffer o : register(u0); [numthreads(1,1,1)] void main() { p.Store(0, 7); }",
     ];
     let options = options(&rt)?;
     for text in texts {

@@ -96,18 +96,79 @@ fn an_input_that_fails_is_a_read_fault(rt: HostRuntime) -> Result<(), Fail> {
     Ok(())
 }
 
+/// Pieces one after the other, each so many times.
+fn repeated(rt: &HostRuntime, pieces: &[(&[u8], usize)]) -> Result<Bytes, Fail> {
+    let mut text = Bytes::new(rt.alloc());
+    for (piece, times) in pieces {
+        for _ in 0..*times {
+            text.extend_from_slice(piece)?;
+        }
+    }
+    Ok(text)
+}
+
+/// How a source is refused.
+fn compile_run(rt: &HostRuntime, text: Bytes) -> Result<Run, Fail> {
+    run_tool(rt, &["compile"], &mut PlainSource::new(text), &[])
+}
+
 #[test]
 fn texts_are_refused(rt: HostRuntime) -> Result<(), Fail> {
-    let long = vec![in rt.alloc(); b' '; 1048577]?;
-    let texts: [(&[u8], &[u8]); 2] = [
-        (long.as_slice(), b"error: too long\n"),
+    let texts: [(&[u8], &[u8]); 6] = [
+        (b"", b"1:1: syntax\n"),
+        (b"4294967296", b"1:1: number too large\n"),
+        (b"void f() { /* }", b"1:12: bad byte\n"),
+        (b"void f() {\n\tint if;\n}", b"2:6: syntax\n"),
         (b"void f() {}", b"error: not built\n"),
+        (
+            b"[numthreads(1,1,1)] void main() { ; }",
+            b"error: not built\n",
+        ),
     ];
     for (text, line) in texts {
-        let mut input = PlainSource::new(Bytes::from_slice(rt.alloc(), text)?);
-        let run = run_tool(&rt, &["compile"], &mut input, &[])?;
+        let run = compile_run(&rt, Bytes::from_slice(rt.alloc(), text)?)?;
         assert_refused(&rt, &run, Status::Refused, line);
     }
+    Ok(())
+}
+
+#[test]
+fn texts_about_a_limit_are_refused(rt: HostRuntime) -> Result<(), Fail> {
+    let texts: [(&[u8], usize, &[u8]); 3] = [
+        (b" ", 1048577, b"error: too long\n"),
+        (b" ", 1048576, b"1:1048577: syntax\n"),
+        (b";", 262145, b"error: too many tokens\n"),
+    ];
+    for (piece, times, line) in texts {
+        let run = compile_run(&rt, repeated(&rt, &[(piece, times)])?)?;
+        assert_refused(&rt, &run, Status::Refused, line);
+    }
+    Ok(())
+}
+
+#[test]
+fn texts_that_are_nested_too_deep_are_refused(rt: HostRuntime) -> Result<(), Fail> {
+    let parentheses: [(&[u8], &[u8]); 2] = [
+        (b"; }", b"error: too deep\n"),
+        (b"; ", b"1:219: syntax\n"),
+    ];
+    for (end, line) in parentheses {
+        let text = repeated(
+            &rt,
+            &[
+                (b"void f() { x = ", 1),
+                (b"(", 100),
+                (b"1", 1),
+                (b")", 100),
+                (end, 1),
+            ],
+        )?;
+        let run = compile_run(&rt, text)?;
+        assert_refused(&rt, &run, Status::Refused, line);
+    }
+    let sum = repeated(&rt, &[(b"void f() { x = 1", 1), (b" + 1", 99), (b"; }", 1)])?;
+    let run = compile_run(&rt, sum)?;
+    assert_refused(&rt, &run, Status::Refused, b"error: too deep\n");
     Ok(())
 }
 

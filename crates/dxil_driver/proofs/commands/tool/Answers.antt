@@ -9,6 +9,7 @@ use Rattle.dxil_driver.specs.declared.refusal.Refusal.TheVariants.{Memory, Usage
 use Rattle.dxil_driver.proofs.ChosenOnce.{same_command}
 use Rattle.dxil_driver.proofs.Matches.{none_says, some_says}
 use Rattle.dxil_driver.proofs.Refused.{done_or_memory, stops_refused, stands, is_told, fails_notes}
+use Rattle.dxil_driver.proofs.RefusedText.{refused_input, told_status}
 use Rattle.dxil_driver.proofs.commands.tool.Goals as goal
 
 pub returns-in-Err-clause-write_fault : goal.returns-in-Err-clause-write_fault
@@ -54,3 +55,11 @@ returns-clause-complete g c = λ command words calm quiet.
     subst (λ (k : Command). IfSome (g.I.Source.left c.args.input.now) (λ all. length all ≤ limit_of k → Accepts k all → IsDoneOrMemory c.refuse-in-Err-run.result (HasRisen (g.N.Sink.faults c.args.notes.now) (g.N.Sink.faults c.refuse-in-Err-run.new.notes))))
     (same_command (map string_bytes c.args.words.now) c.in-Ok-Some.command command (some_says (IsUsage (map string_bytes c.args.words.now)) (Asks (map string_bytes c.args.words.now)) c.in-Ok-Some.field-0 c.in-Ok-Some.command c.in-Ok-Some.ensures c.in-Ok-Some.field-0-is) words)
     (done_or_memory g.N.Sink.written g.N.Sink.faults c.args.notes.now c.refuse-in-Err-run.new.notes c.in-Err-run.refusal c.refuse-in-Err-run.result c.in-Ok-Some.command (g.I.Source.left c.args.input.now) (c.in-Err-run.ensures.complete calm) c.refuse-in-Err-run.ensures.told)
+
+pub returns-clause-refused : goal.returns-clause-refused
+returns-clause-refused g c = λ refused. (
+  c.in-Ok-Some.command,
+  some_says (IsUsage (map string_bytes c.args.words.now)) (Asks (map string_bytes c.args.words.now)) c.in-Ok-Some.field-0 c.in-Ok-Some.command c.in-Ok-Some.ensures c.in-Ok-Some.field-0-is,
+  refused_input g.I.Source.left g.I.Source.taken g.I.Source.faults c.args.input.now c.run.new.input c.in-Ok-Some.command c.in-Err-run.refusal c.in-Err-run.ensures.cause
+      (told_status g.N.Sink.written g.N.Sink.faults c.args.notes.now c.refuse-in-Err-run.new.notes c.in-Err-run.refusal c.refuse-in-Err-run.result c.refuse-in-Err-run.ensures.told refused),
+)

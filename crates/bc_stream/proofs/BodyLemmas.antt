@@ -12,12 +12,12 @@ use Rattle.bc_stream.specs.declared.piece.Piece.{Piece}
 use Rattle.bc_stream.specs.declared.piece.Piece.TheVariants.{Leave, Enter, Record}
 use Rattle.bc_stream.specs.declared.piece.Scope.{Scope}
 use Rattle.bc_stream.specs.declared.read.Body.{Body}
-use Rattle.bc_stream.specs.Bits.{low_bits, bits_of, Place}
+use Rattle.bc_stream.specs.Bits.{low_bits, bits_of}
 use Rattle.bc_stream.specs.Blocks.{Contents, no_more, a_record, a_block, append, parts_contents, contents_of}
-use Rattle.bc_stream.specs.Spelling.{Raw, raw_leave, raw_enter, raw_record, Frame, State, frames_after, outer, Good, Leads, Shown, shown_leave, shown_enter, shown_record, shown, shown_of, start, IsEnd, Spelled, Faulty, FaultHere}
+use Rattle.bc_stream.specs.Spelling.{Raw, raw_leave, raw_enter, raw_record, Frame, State, frames_after, outer, Good, Leads, Shown, shown_leave, shown_enter, shown_record, shown, shown_of, start, Spelled, Faulty}
 use Rattle.bc_stream.specs.Faults.{IsBad}
 use Rattle.bc_stream.specs.Reading.{place_in}
-use Rattle.bc_stream.specs.Pieces.{state_in, Knows, FaultAt, LeaveAt, EnterAt, EntryAt, PieceAt}
+use Rattle.bc_stream.specs.Pieces.{state_in, Knows, LeaveAt, EnterAt, EntryAt, PieceAt}
 use Rattle.bc_stream.specs.Bodies.{Shows, FaultBeyond, FaultFrom, PartsAt, BodyAt, BlockAt, BlocksAt}
 use Rattle.bc_stream.proofs.BitLemmas.{low_bits-none, low_bits-more, bits_of-none, bits_of-more}
 use Rattle.bc_stream.proofs.ReaderLemmas.{drop_bytes}
@@ -54,10 +54,6 @@ beyond_after what from middle kind bit p q = record {
   here = q.here;
   at = q.at;
 }
-
-beyond_here : (bytes : List ℕ) (frames : List Frame) (at kind bit : ℕ) → (IsEnd (state_in bytes frames at) → ⊥) → bit ≡ at → FaultHere (state_in bytes frames at) kind →
-    FaultBeyond (state_in bytes frames at) kind bit
-beyond_here bytes frames at kind bit more is here = record { pieces = []; state = state_in bytes frames at; leads = refl; goes_on = more; here = here; at = is }
 
 -- ---- the body of a block
 
@@ -123,17 +119,6 @@ body_whole bytes scope from at body p e = record {
   within = e.within;
 }
 
-some_open : (scope : Scope) (frames : List Frame) (place : Place) → Knows scope frames → 0 < scope.levels → IsEnd (record { frames = frames; place = place }) → ⊥
-some_open scope frames place knows some end = omega (arith, some, knows.levels-is, ap length end.closed)
-
--- the fault of a piece behind others
-pub piece_fault : (bytes : List ℕ) (scope : Scope) (from at : ℕ) (parts : Contents) (fault : StreamFault) → PartsAt bytes scope from parts at → 0 < scope.levels → FaultAt bytes scope at fault →
-    FaultFrom bytes scope from fault
-piece_fault bytes scope from at parts (Bad kind bit) p some h = λ frames knows.
-    beyond_after (shown_of parts) (state_in bytes frames from) (state_in bytes frames at) kind bit (p.reads frames knows)
-    (beyond_here bytes frames at kind bit (some_open scope frames (place_in bytes at) knows some) h.0 (h.1 frames knows))
-piece_fault bytes scope from at parts Memory p some h = tt
-
 -- the fault inside a block
 enter_fault : (bytes : List ℕ) (scope inner : Scope) (at id to kind bit : ℕ) (frames : List Frame) → EnterAt bytes scope at id inner to → FaultFrom bytes inner to (Bad kind bit) → Knows scope frames →
     FaultBeyond (state_in bytes frames at) kind bit
@@ -151,9 +136,6 @@ block_fault bytes scope inner from at id to parts (Bad kind bit) p e h = λ fram
     (enter_fault bytes scope inner at id to kind bit frames e h knows)
 block_fault bytes scope inner from at id to parts Memory p e h = tt
 
-pub memory_from : (bytes : List ℕ) (scope : Scope) (from : ℕ) (fault : StreamFault) → fault ≡ Memory → FaultFrom bytes scope from fault
-memory_from bytes scope from fault is = subst (FaultFrom bytes scope from) (sym is) tt
-
 -- ---- outermost blocks
 
 pub outermost_at : (bytes : List ℕ) (scope inner : Scope) (at id to : ℕ) (body : Body) (old new : Contents) → Knows scope [] → EnterAt bytes scope at id inner to → BodyAt bytes inner to body →
@@ -167,16 +149,6 @@ outermost_at bytes scope inner at id to body old new knows e b put = record {
   forward = omega (arith, e.forward, b.forward);
   within = b.within;
 }
-
-only_outside : (scope : Scope) (frames : List Frame) → scope.levels ≡ 0 → Knows scope frames → frames ≡ []
-only_outside scope [] none knows = refl
-only_outside scope (frame ∷ frames) none knows = absurd (omega (arith, knows.levels-is, none))
-
-pub outermost_fault : (bytes : List ℕ) (scope : Scope) (at : ℕ) (fault : StreamFault) → scope.levels ≡ 0 → (IsEnd (state_in bytes [] at) → ⊥) → FaultAt bytes scope at fault → FaultFrom bytes scope at fault
-outermost_fault bytes scope at (Bad kind bit) none more h = λ frames knows.
-    let outside = only_outside scope frames none knows in
-    beyond_here bytes frames at kind bit (subst (λ f. IsEnd (state_in bytes f at) → ⊥) (sym outside) more) h.0 (h.1 frames knows)
-outermost_fault bytes scope at Memory none more h = tt
 
 pub outermost_inner : (bytes : List ℕ) (scope inner : Scope) (at id to : ℕ) (fault : StreamFault) → EnterAt bytes scope at id inner to → FaultFrom bytes inner to fault → FaultFrom bytes scope at fault
 outermost_inner bytes scope inner at id to (Bad kind bit) e h = λ frames knows. enter_fault bytes scope inner at id to kind bit frames e h knows
@@ -196,13 +168,6 @@ only_heads_outside bytes scope at (Record code values to) knows p other = no_rec
 
 pub knows_outside : (scope : Scope) → scope.levels ≡ 0 → scope.width ≡ 2 → scope.ends ≡ 0 → Knows scope []
 knows_outside scope none width ends = record { levels-is = sym none; width-is = sym width; ends-is = sym ends }
-
-pub no_blocks_at : (bytes : List ℕ) (blocks : Contents) → blocks ≡ no_more → 4 ≤ length bytes → BlocksAt bytes blocks 32
-no_blocks_at bytes blocks none long = record {
-  reads = record { pieces = []; leads = refl; shows = ap shown_of (sym none) };
-  on_word = refl;
-  within = omega arith;
-}
 
 pub blocks_more : (bytes : List ℕ) (at to : ℕ) (old new : Contents) → BlocksAt bytes old at → BlockAt bytes at old new to → BlocksAt bytes new to
 blocks_more bytes at to old new p b =
@@ -246,9 +211,6 @@ blocks_fault bytes scope blocks at (Bad kind bit) magic knows p h =
       at = b.at;
     })
 blocks_fault bytes scope blocks at Memory magic knows p h = tt
-
-pub not_at_end : (bytes : List ℕ) (at : ℕ) → (All (λ bit. bit ≡ 0) (drop at (bits_of bytes)) → ⊥) → IsEnd (state_in bytes [] at) → ⊥
-not_at_end bytes at some end = some end.zeros
 
 -- ---- zeros
 

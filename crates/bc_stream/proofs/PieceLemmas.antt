@@ -1,5 +1,5 @@
 -- Pieces, read whole and then judged.
-use Rattle.std.proofs.Common.{◌≡◌, ℕ, ◌+◌, ◌*◌, ◌^◌, ◌<◌, ◌≤◌, ◌≢◌, List, [], ◌∷◌, length, Some, None, refl, sym, ap, ◌∙◌, subst, inl, inr, arith}
+use Rattle.std.proofs.Common.{◌≡◌, ℕ, ◌+◌, ◌*◌, ◌^◌, ◌<◌, ◌≤◌, ◌≢◌, List, [], length, Some, None, refl, sym, ap, ◌∙◌, subst, inl, inr, arith}
 use Rattle.std.specs.List.{All}
 use Rattle.std.proofs.lemmas.List.{nil_from_length}
 use Rattle.bc_stream.specs.declared.fault.StreamFault.{StreamFault}
@@ -9,9 +9,9 @@ use Rattle.bc_stream.specs.declared.piece.Scope.{Scope}
 use Rattle.bc_stream.specs.declared.reader.Number.{Number}
 use Rattle.bc_stream.specs.declared.record.RecordRead.{RecordRead}
 use Rattle.bc_stream.specs.Bits.{Place, ◌then◌, Fixed, Aligned, Chunked, Vbr}
-use Rattle.bc_stream.specs.Spelling.{Raw, raw_leave, raw_enter, raw_define, raw_record, raw_undefined, id_of, layout, reads, Frame, width_in, Has, EndsElsewhere}
+use Rattle.bc_stream.specs.Spelling.{Raw, raw_leave, raw_enter, raw_define, raw_record, raw_undefined, id_of, layout, reads, Frame, width_in, Has}
 use Rattle.bc_stream.specs.Reading.{place_in, NoNumber, FixedAt, AlignedAt, HoldAll, NumberAt, RecordAt, NoRecord}
-use Rattle.bc_stream.specs.Pieces.{IsBelow, HeadAt, NoHead, Knows, GoodAt, HasFault, FaultAt, LeaveAt, EnterAt, EntryAt, ends_in}
+use Rattle.bc_stream.specs.Pieces.{IsBelow, HeadAt, NoHead, Knows, GoodAt, HasFault, FaultAt, EntryAt}
 use Rattle.bc_stream.proofs.StepLemmas.{fixed_once, aligned_once, vbr_once}
 
 pub fault_at : (bytes : List ℕ) (scope : Scope) (at kind : ℕ) (fault : StreamFault) → fault ≡ Bad kind at → HasFault bytes scope at kind → FaultAt bytes scope at fault
@@ -22,9 +22,6 @@ fault_at bytes scope at kind fault is h = subst (FaultAt bytes scope at) (sym is
 cut_short : (bytes : List ℕ) (scope : Scope) (at : ℕ) → ((raw : Raw) (to : Place) → reads scope.width raw (place_in bytes at) to → ⊥) → HasFault bytes scope at 2
 cut_short bytes scope at none frames knows =
     inl (refl, λ raw to p. none raw to (subst (λ w. reads w raw (place_in bytes at) to) knows.width-is p))
-
-pub no_id : (bytes : List ℕ) (scope : Scope) (at : ℕ) → NoNumber (Fixed scope.width) (place_in bytes at) → HasFault bytes scope at 2
-no_id bytes scope at none = cut_short bytes scope at (λ raw to p. none (id_of raw) p.middle p.one)
 
 -- where the id is read, but no piece with it
 cut_behind : (bytes : List ℕ) (scope : Scope) (at behind id : ℕ) → behind ≡ at + scope.width → FixedAt bytes scope.width at id →
@@ -112,52 +109,6 @@ some_frames scope frames knows some none = some (sym knows.levels-is ∙ ap leng
 
 -- ---- the end of a block
 
-nowhere_else : (frames : List Frame) (to : Place) → frames ≡ [] → EndsElsewhere frames to → ⊥
-nowhere_else [] to is h = h
-nowhere_else (frame ∷ frames) to is h = absurd (cc is)
-
-ends_here : (frames : List Frame) (to : Place) (ends : ℕ) → ends_in frames ≡ ends → to.at ≡ ends → EndsElsewhere frames to → ⊥
-ends_here [] to ends e f h = h
-ends_here (frame ∷ frames) to ends e f h = h (f ∙ sym e)
-
-ends_elsewhere : (frames : List Frame) (to : Place) (ends : ℕ) → (frames ≡ [] → ⊥) → ends_in frames ≡ ends → to.at ≢ ends → EndsElsewhere frames to
-ends_elsewhere [] to ends some e f = some refl
-ends_elsewhere (frame ∷ frames) to ends some e f = λ h. f (h ∙ e)
-
-leave_outside : (frames : List Frame) (to : Place) → frames ≡ [] → Least frames to raw_leave 7
-leave_outside frames to none = record {
-  has = inl (refl, none);
-  least = λ other h. elim h [ inl a ↦ omega (arith, a.0) | inr b ↦ absurd (nowhere_else frames to none b.1) ];
-}
-
-leave_elsewhere : (frames : List Frame) (to : Place) (ends : ℕ) → (frames ≡ [] → ⊥) → ends_in frames ≡ ends → to.at ≢ ends → Least frames to raw_leave 5
-leave_elsewhere frames to ends some e f = record {
-  has = inr (refl, ends_elsewhere frames to ends some e f);
-  least = λ other h. elim h [ inl a ↦ absurd (some a.1) | inr b ↦ omega (arith, b.0) ];
-}
-
-leave_good : (frames : List Frame) (to : Place) (ends kind : ℕ) → (frames ≡ [] → ⊥) → ends_in frames ≡ ends → to.at ≡ ends → Has frames to raw_leave kind → ⊥
-leave_good frames to ends kind some e f (inl a) = some a.1
-leave_good frames to ends kind some e f (inr b) = ends_here frames to ends e f b.1
-
-pub outside_leave : (bytes : List ℕ) (scope : Scope) (at behind to : ℕ) → behind ≡ at + scope.width → FixedAt bytes scope.width at 0 → AlignedAt bytes behind to → scope.levels ≡ 0 → HasFault bytes scope at 7
-outside_leave bytes scope at behind to is read p none =
-    least_at bytes scope at behind to 7 raw_leave is read p.reads (λ frames knows. leave_outside frames (place_in bytes to) (no_frames scope frames knows none))
-
-pub wrong_leave : (bytes : List ℕ) (scope : Scope) (at behind to : ℕ) → behind ≡ at + scope.width → FixedAt bytes scope.width at 0 → AlignedAt bytes behind to → scope.levels ≢ 0 → to ≢ scope.ends → HasFault bytes scope at 5
-wrong_leave bytes scope at behind to is read p some elsewhere =
-    least_at bytes scope at behind to 5 raw_leave is read p.reads
-    (λ frames knows. leave_elsewhere frames (place_in bytes to) scope.ends (some_frames scope frames knows some) knows.ends-is elsewhere)
-
-pub good_leave : (bytes : List ℕ) (scope : Scope) (at behind to : ℕ) → behind ≡ at + scope.width → FixedAt bytes scope.width at 0 → AlignedAt bytes behind to → scope.levels ≢ 0 → to ≡ scope.ends → LeaveAt bytes scope at to
-good_leave bytes scope at behind to is read p some here = record {
-  good = good_at bytes scope at behind to raw_leave is read p.reads
-      (λ frames knows kind h. leave_good frames (place_in bytes to) scope.ends kind (some_frames scope frames knows some) knows.ends-is here h);
-  on_word = p.on_word;
-  forward = omega (arith, p.forward);
-  within = p.within;
-}
-
 -- ---- the head of a block
 
 pub no_head_id : (bytes : List ℕ) (at : ℕ) → NoNumber (Chunked 7) (place_in bytes at) → NoHead bytes at
@@ -224,12 +175,6 @@ head_zero frames to id width words none short room = record {
   ];
 }
 
-head_good : (frames : List Frame) (to : Place) (id width words kind : ℕ) → id < 2 ^ 32 → width ≤ 64 → length frames < 16 → id ≢ 0 → Has frames to (raw_enter id width words) kind → ⊥
-head_good frames to id width words kind small short room some (inl a) = omega (arith, small, a.1)
-head_good frames to id width words kind small short room some (inr (inl a)) = omega (arith, short, a.1)
-head_good frames to id width words kind small short room some (inr (inr (inl a))) = omega (arith, room, a.1)
-head_good frames to id width words kind small short room some (inr (inr (inr d))) = some d.1
-
 pub large_id : (bytes : List ℕ) (scope : Scope) (at behind : ℕ) (head : HeadRead) → behind ≡ at + scope.width → FixedAt bytes scope.width at 1 → HeadAt bytes behind head →
     IsBelow (2 ^ 32) head.id None → HasFault bytes scope at 4
 large_id bytes scope at behind head is read p large =
@@ -253,28 +198,6 @@ pub zero_head : (bytes : List ℕ) (scope : Scope) (at behind id width : ℕ) (h
 zero_head bytes scope at behind id width head is read p small short room none =
     least_at bytes scope at behind head.to 10 (raw_enter p.id p.width head.words) is read p.reads
     (λ frames knows. head_zero frames (place_in bytes head.to) p.id p.width head.words (sym (small p.id p.holds_id).0 ∙ none) (omega (arith, (short p.width p.holds_width).1)) (omega (arith, room, knows.levels-is)))
-
-pub good_head : (bytes : List ℕ) (scope inner : Scope) (at behind id : ℕ) (head : HeadRead) → behind ≡ at + scope.width → FixedAt bytes scope.width at 1 → HeadAt bytes behind head →
-    IsBelow (2 ^ 32) head.id (Some id) → IsBelow 65 head.width (Some inner.width) → scope.levels < 16 → id ≢ 0 → inner.levels ≡ scope.levels + 1 → inner.ends ≡ head.to + 32 * head.words →
-    EnterAt bytes scope at id inner head.to
-good_head bytes scope inner at behind id head is read p small short room some more ends =
-    let i = small p.id p.holds_id in
-    let w = short p.width p.holds_width in
-    let raw = raw_enter id inner.width head.words in
-    let same : layout raw (place_in bytes behind) (place_in bytes head.to) =
-    subst (λ n. layout (raw_enter n inner.width head.words) (place_in bytes behind) (place_in bytes head.to)) (sym i.0)
-    (subst (λ n. layout (raw_enter p.id n head.words) (place_in bytes behind) (place_in bytes head.to)) (sym w.0) p.reads) in
-    record {
-      words = head.words;
-      good = good_at bytes scope at behind head.to raw is read same
-          (λ frames knows kind h. head_good frames (place_in bytes head.to) id inner.width head.words kind (omega (arith, i.0, i.1)) (omega (arith, w.0, w.1)) (omega (arith, room, knows.levels-is)) some h);
-      levels-is = more;
-      ends-is = ends;
-      room = omega arith;
-      limit = omega (arith, w.0, w.1);
-      forward = omega (arith, p.forward);
-      within = p.within;
-    }
 
 -- ---- a record
 
@@ -328,18 +251,6 @@ entry_of bytes scope at behind to code values is read p small fit inside forward
   forward = omega arith;
   within = within;
 }
-
-pub good_record : (bytes : List ℕ) (scope : Scope) (at behind code : ℕ) (values : List ℕ) (found : RecordRead) → behind ≡ at + scope.width → FixedAt bytes scope.width at 3 → RecordAt bytes behind found →
-    IsBelow (2 ^ 32) found.code (Some code) → found.values ≡ Some values → scope.levels ≢ 0 → EntryAt bytes scope at code values found.to
-good_record bytes scope at behind code values found is read p small some inside =
-    let hold : (values ≡ p.values) × All (λ value. value < 2 ^ 64) p.values = subst (λ l. HoldAll l p.values) some p.hold in
-    let c = small p.code p.holds in
-    let raw = raw_record code values in
-    let same : layout raw (place_in bytes behind) (place_in bytes found.to) =
-    subst (λ n. layout (raw_record n values) (place_in bytes behind) (place_in bytes found.to)) (sym c.0)
-    (subst (λ l. layout (raw_record p.code l) (place_in bytes behind) (place_in bytes found.to)) (sym hold.0) p.reads) in
-    entry_of bytes scope at behind found.to code values is read same (omega (arith, c.0, c.1))
-    (subst (All (λ value. value < 2 ^ 64)) (sym hold.0) hold.1) inside p.forward p.within
 
 -- ---- other pieces
 

@@ -56,8 +56,10 @@ def timed(program, layer, path, source, runs):
 
 
 def doubled(program, layer, half, whole):
-    """The time over that of half the size. Where it misses the target both are timed again, one beside the other: a
-    time that something else on the machine has lengthened isn't one of the program."""
+    """How much more it takes than on half the size, by instructions where they are known: what else runs on the
+    machine doesn't change them. Where a time misses the target both are timed again, one beside the other."""
+    if half.counted is not None and whole.counted is not None:
+        return whole.counted / half.counted
     words = [program, layer]
     for _ in range(20):
         if whole.took <= DOUBLED * half.took:
@@ -91,7 +93,7 @@ def show_average(program, folder, idle, judge):
             half = largest.get(layer)
             whole = largest[layer] = timed(program, layer, path, source, 10)
             ratio = None if half is None else doubled(program, layer, half, whole)
-            judge.wants(f'{layer}, {whole.size} bytes, time over that of half the size', ratio, DOUBLED)
+            judge.wants(f'{layer}, {whole.size} bytes, over half the size', ratio, DOUBLED)
             row('average', layer, whole, memory_ratio([program, layer], path, idle), ratio)
     for layer, one in largest.items():
         judge.wants(f'{layer}, instructions a byte', one.per_byte(), INSTRUCTIONS[layer])

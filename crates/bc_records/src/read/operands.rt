@@ -53,10 +53,10 @@ pub fn after(operands: &[u64], count: usize) -> &[u64]
 pub fn read_text(alloc: Global, characters: &[u64]) -> Result<Text, NoMemory>
     ensures { IfOk result (λ chars. chars ≡ text characters.now) }
 {
-    let mut bytes = Vec::with_capacity(alloc, characters.len())?;
-    for character in characters {
-        bytes.push((*character % BYTE_LIMIT) as u8)?;
-    }
+    let bytes = characters
+        .iter()
+        .map(|character| (*character % BYTE_LIMIT) as u8)
+        .collect(alloc)?;
     Text::from_vec(bytes)
 }
 
@@ -67,9 +67,9 @@ pub fn read_text(alloc: Global, characters: &[u64]) -> Result<Text, NoMemory>
 pub fn read_words(alloc: Global, numbers: &[u64]) -> Result<Ids, NoMemory>
     ensures { IfOk result (λ ids. ids ≡ words numbers.now) }
 {
-    let mut ids = Vec::with_capacity(alloc, numbers.len())?;
-    for number in numbers {
-        ids.push(low_word(*number))?;
-    }
+    let ids = numbers
+        .iter()
+        .map(|number| low_word(*number))
+        .collect(alloc)?;
     Ids::from_vec(ids)
 }

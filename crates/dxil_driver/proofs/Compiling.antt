@@ -1,8 +1,7 @@
 -- What a text is compiled to, and why it isn't, from what the layers answer.
 use mathlib.Core.Logic.{inl, inr}
-use Rattle.std.proofs.Common.{◌≡◌, ◌∙◌, refl, sym, ap, subst, ℕ, ◌<◌, ◌≤◌, List, [], ◌∷◌, length, map, slice_get, arith}
-use Rattle.std.specs.Prelude.{◌⊎◌, IfOk, IfErr, Result, Ok, Err, Option, None, Some}
-use Rattle.std.proofs.lemmas.Option.{none-some, same_Some}
+use Rattle.std.proofs.Common.{◌≡◌, ◌∙◌, refl, sym, ap, subst, ℕ, ◌≤◌, List, length, arith}
+use Rattle.std.specs.Prelude.{◌⊎◌, IfOk, IfErr, Result, Ok, Err}
 use Rattle.base_core.specs.declared.place.Place.{Place}
 use Rattle.hl_lexer.specs.declared.fault.LexFault.{LexFault}
 use Rattle.hl_lexer.specs.declared.fault.LexFault.TheVariants.{BadByte, NumberTooLarge, TooManyTokens, Memory as NoRoomForTokens}

@@ -1,6 +1,6 @@
 -- The container of a kernel, from what each layer promises.
-use Rattle.std.proofs.Common.{◌≡◌, ℕ, ◌^◌, ◌<◌, List, length, sym, ap, subst, arith, false, Bool, []}
-use Rattle.std.specs.Prelude.{Result, Ok, Err, IfOk, Option, None, Some}
+use Rattle.std.proofs.Common.{◌≡◌, ℕ, ◌^◌, ◌<◌, List, length, sym, ap, subst, arith, false, Bool}
+use Rattle.std.specs.Prelude.{Result, Ok, Err, IfOk}
 use Rattle.ir_core.specs.declared.module.Module.{Module}
 use Rattle.bc_stream.specs.Blocks.{Contents}
 use Rattle.bc_stream.specs.Spelling.{Spelled, OneList}

@@ -1,5 +1,5 @@
 -- A text has at most one first form, since it has at most one tree.
-use Rattle.std.proofs.Common.{◌≡◌, ◌∙◌, sym, subst, List}
+use Rattle.std.proofs.Common.{◌≡◌, subst, List}
 use Rattle.hl_lexer.specs.Laws.{AtMostOneTokenList}
 use Rattle.hl_lexer.specs.Tokens.{Lexeme}
 use Rattle.hl_parser.specs.Grammar.{SpellsProgram}

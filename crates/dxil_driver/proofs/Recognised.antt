@@ -1,5 +1,5 @@
 -- What is found in a tree is its first form: each part has the form that is looked for, and each that has it is found.
-use Rattle.std.proofs.Common.{◌≡◌, ◌∙◌, refl, sym, ap, subst, ℕ, ◌*◌, ◌≤◌, Bool, true, false, ◌&&◌, cond, List, [], ◌∷◌, ◌++◌, Option, None, Some, slice_get, codes, map}
+use Rattle.std.proofs.Common.{◌≡◌, ◌∙◌, refl, sym, ap, subst, ℕ, ◌*◌, Bool, true, false, ◌&&◌, cond, List, [], ◌∷◌, Option, None, Some, slice_get, codes}
 use Rattle.std.proofs.lemmas.Bool.{and_parts, both_ways, le-leb, leb-true}
 use Rattle.std.proofs.lemmas.Option.{none-some, same_Some}
 use Rattle.std.proofs.lemmas.Slice.Eq.{bytes_eq-Decides}
@@ -12,7 +12,7 @@ use Rattle.hl_lexer.specs.declared.token.TokenKind.TheVariants.{Name, Word, Numb
 use Rattle.hl_lexer.specs.Tokens.{Lexeme}
 use Rattle.hl_parser.specs.declared.tree.Tree as variants
 use Rattle.hl_parser.specs.Views.{plain_trees}
-use Rattle.hl_parser.specs.Trees.{Tree, Trees, no_trees, more_trees, Maybe, absent, present, a_program, an_item, a_buffer, a_kind, a_function, a_result, an_attribute, a_block, a_stmt, a_postfix, a_primary, an_args}
+use Rattle.hl_parser.specs.Trees.{Tree, Trees, no_trees, more_trees, absent, present, a_program, an_item, a_buffer, a_kind, a_function, a_result, an_attribute, a_block, a_stmt, a_postfix, a_primary, an_args}
 use Rattle.dxil_driver.specs.declared.stores.LiteralStore.{LiteralStore}
 use Rattle.dxil_driver.specs.declared.stores.FirstForm.{FirstForm}
 use Rattle.dxil_driver.specs.FirstForm.{AreItems, entry_alone, buffer_first, AreStores, HasStores, IsBuffer, IsEntry, IsForm, IsGroup, IsGroupSize, IsNamed, IsLiteral, IsStore, HasBytes}

@@ -3,14 +3,14 @@ use Rattle.std.proofs.Common.{◌≡◌, ℕ, ◌≤◌, List, length, refl, sym
 use mathlib.Core.Logic.{inl, inr}
 use Rattle.std.specs.Io.KnownBytes.{Keeps}
 use Rattle.base_core.specs.Counts.{HasRisen}
-use Rattle.std.specs.Prelude.{◌≢◌, IfErr, IfSome, None, Some, Result, Ok}
+use Rattle.std.specs.Prelude.{◌≢◌, ◌⊎◌, IfErr, IfSome, None, Some, Result, Ok, Err, IsErrAnd}
 use Rattle.std.specs.declared.option.Option.{Option}
 use Rattle.ir_core.specs.declared.module.Module.{Module}
 use Rattle.bc_stream.specs.declared.fault.StreamFault.TheVariants.{Bad as BadStream}
 use Rattle.bc_records.specs.declared.fault.RecordFault.TheVariants.{Bad as BadRecord}
-use Rattle.dxil_driver.specs.Check.{Fails, in_container, in_stream, in_records, in_module, NamesFault}
+use Rattle.dxil_driver.specs.Check.{Fails, in_container, in_stream, in_records, in_module, IsRefused, NamesFault}
 use Rattle.dxil_driver.specs.Commands.{Accepts, Asks, IsRefusedText, Refuses, limit_of, most_container}
-use Rattle.dxil_driver.specs.Refusal.{status_of}
+use Rattle.dxil_driver.specs.Refusal.{refusal_of_check, status_of}
 use Rattle.dxil_driver.specs.Tool.{FailsNotes, IsDoneOrMemory, IsStop, IsTold, Stands, StandsFor, TellsOf}
 use Rattle.dxil_driver.specs.declared.checker.CheckFault.{CheckFault}
 use Rattle.dxil_driver.specs.declared.checker.CheckFault.TheVariants.{Container as BadContainer, Stream as BadBitcode, Records as BadBlocks, Rules as BadModule}
@@ -42,6 +42,22 @@ refuses_fails bytes (Container fault) r = (BadContainer fault, in_container faul
 refuses_fails bytes (Stream kind bit) r = (BadBitcode (BadStream kind bit), in_stream kind bit r)
 refuses_fails bytes (Records kind block at) r = (BadBlocks (BadRecord kind block at), in_records kind block at r)
 refuses_fails bytes (Broken rule spot) r = (BadModule rule spot, in_module rule spot r)
+
+-- a fault of a container is a cause of its refusal
+failed_refused : (bytes : List ℕ) (fault : CheckFault) → Fails bytes fault → Refuses Check bytes (refusal_of_check fault)
+failed_refused bytes _ (in_container fault holds) = holds
+failed_refused bytes _ (in_stream kind bit holds) = holds
+failed_refused bytes _ (in_records kind block at holds) = holds
+failed_refused bytes _ (in_module rule spot holds) = holds
+
+failed_or_memory : (bytes : List ℕ) (fault : CheckFault) → IsRefused bytes fault → (refusal_of_check fault ≡ Memory) ⊎ Refuses Check bytes (refusal_of_check fault)
+failed_or_memory bytes fault (inl none) = inl (ap refusal_of_check none)
+failed_or_memory bytes fault (inr fails) = inr (failed_refused bytes fault fails)
+
+pub check_cause : (bytes : List ℕ) (answer : Result (List ℕ) Refusal) (fault : CheckFault) → IsErrAnd answer (λ refusal. refusal ≡ refusal_of_check fault)
+    → IsRefused bytes fault → IfErr answer (λ refusal. (refusal ≡ Memory) ⊎ Refuses Check bytes refusal)
+check_cause bytes (Ok text) fault is cause = absurd is
+check_cause bytes (Err refusal) fault is cause = subst (λ r. (r ≡ Memory) ⊎ Refuses Check bytes r) (sym is) (failed_or_memory bytes fault cause)
 
 -- a container that passed isn't refused
 pub passed_accepted : (bytes : List ℕ) (m : Module) → length bytes ≤ most_container

@@ -1,7 +1,7 @@
 -- The tree of tokens, or their fault with its place, from what the parser answers.
 use mathlib.Core.Logic.{inl, inr}
 use Rattle.std.proofs.Common.{◌≡◌, ◌∙◌, refl, sym, ap, subst, ℕ, ◌<◌, ◌≤◌, List, [], ◌∷◌, length, map, slice_get, get_or, arith}
-use Rattle.std.specs.Prelude.{◌⊎◌, Option, None, Some, Result, Ok, Err}
+use Rattle.std.specs.Prelude.{◌⊎◌, None, Some, Result, Err}
 use Rattle.std.specs.Option.{option_map}
 use Rattle.std.proofs.lemmas.List.{length-map}
 use Rattle.std.proofs.lemmas.Option.{none-some, same_Some, slice_get-map, slice_get_cases, slice_get_within}
@@ -10,7 +10,7 @@ use Rattle.hl_lexer.specs.declared.token.Token.{Token}
 use Rattle.hl_lexer.specs.Terminals.{terminal_of}
 use Rattle.hl_lexer.specs.Tokens.{Lexeme, lexeme_of}
 use Rattle.hl_parser.specs.Grammar.{IsSyntaxFault, SpellsProgram}
-use Rattle.hl_parser.specs.Parsing.{GivesFault, IsAnswer, SpellsTooDeep, most_depth, terminals_of}
+use Rattle.hl_parser.specs.Parsing.{GivesFault, IsAnswer, SpellsTooDeep, terminals_of}
 use Rattle.hl_parser.specs.Trees.{depth}
 use Rattle.hl_parser.specs.Trees as plain
 use Rattle.hl_parser.specs.declared.fault.ParseFault.{ParseFault}
@@ -18,8 +18,7 @@ use Rattle.hl_parser.specs.declared.fault.ParseFault.TheVariants.{Syntax, TooDee
 use Rattle.hl_parser.specs.declared.tree.Tree.{Tree}
 use Rattle.dxil_driver.specs.CompileFaults.{HasTreeFault}
 use Rattle.dxil_driver.specs.SourceText.{IsBrokenAt, IsPlaceOf, SpellTooDeep, SpellTree, start, terminals}
-use Rattle.dxil_driver.specs.declared.compiler.CompileFault.{CompileFault}
-use Rattle.dxil_driver.specs.declared.compiler.CompileFault.TheVariants.{Parse, Memory}
+use Rattle.dxil_driver.specs.declared.compiler.CompileFault.TheVariants.{Parse}
 
 -- tokens are the same for the grammar, wherever their texts lie
 same_terminals : (tokens : List Token) → terminals (map lexeme_of tokens) ≡ terminals_of tokens

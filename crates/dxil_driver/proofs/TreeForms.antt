@@ -1,5 +1,5 @@
 -- The parts of a tree by its form, and that trees of other forms have no such parts.
-use Rattle.std.proofs.Common.{◌≡◌, ◌∙◌, refl, sym, ap, ℕ, List, [], ◌∷◌, Option, None, Some, true, false, ◌<◌, ◌≤◌, length, slice_index_or, arith}
+use Rattle.std.proofs.Common.{◌≡◌, ◌∙◌, refl, sym, ap, ℕ, List, [], ◌∷◌, Option, None, Some, true, false, length, slice_index_or, arith}
 use mathlib.Core.Logic.{inl, inr}
 use Rattle.std.specs.Prelude.{◌⊎◌}
 use Rattle.std.specs.Option.{is_some}

@@ -1,11 +1,11 @@
 -- How the first form is found in a tree: each part is looked for by its form. Only private functions cite this;
 -- what is found is the first form of the tree, as `IsForm` says it.
-use Rattle.std.specs.Prelude.{ℕ, ◌*◌, Bool, true, false, not, ◌&&◌, List, [], ◌∷◌, slice_get, Option, Some, None, codes, nat_le, if◌then◌else◌, ◌≡◌}
+use Rattle.std.specs.Prelude.{ℕ, ◌*◌, Bool, true, false, ◌&&◌, List, [], ◌∷◌, slice_get, Option, Some, None, codes, nat_le, if◌then◌else◌, ◌≡◌}
 use Rattle.std.specs.Str.{bytes_eq}
 use Rattle.hl_lexer.specs.declared.token.TokenKind.{TokenKind}
 use Rattle.hl_lexer.specs.declared.token.TokenKind.TheVariants.{Name, Word, Number, Mark}
 use Rattle.hl_lexer.specs.Tokens.{Lexeme}
-use Rattle.hl_parser.specs.Trees.{Tree, Trees, no_trees, more_trees, Maybe, absent, present, a_program, an_item, a_buffer, a_kind, a_function, a_result, an_attribute, a_block, a_stmt, a_postfix, a_primary, an_args}
+use Rattle.hl_parser.specs.Trees.{Tree, Trees, no_trees, more_trees, absent, present, a_program, an_item, a_buffer, a_kind, a_function, a_result, an_attribute, a_block, a_stmt, a_postfix, a_primary, an_args}
 use Rattle.dxil_driver.specs.declared.stores.LiteralStore.{LiteralStore}
 use Rattle.dxil_driver.specs.declared.stores.FirstForm.{FirstForm}
 

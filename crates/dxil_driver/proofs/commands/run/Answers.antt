@@ -1,6 +1,6 @@
 -- What is answered is answered for all that was left.
 use mathlib.Core.Logic.{◌⊎◌}
-use Rattle.std.proofs.Common.{rules, ◌≡◌, ◌≤◌, List, ℕ, length, sym, subst, arith, IfErr}
+use Rattle.std.proofs.Common.{rules, ◌≡◌, ◌≤◌, List, ℕ, length, subst, IfErr}
 use Rattle.dxil_driver.specs.Commands.{Refuses, limit_of}
 use Rattle.dxil_driver.specs.Tool.{TakesAll}
 use Rattle.dxil_driver.specs.declared.refusal.Refusal.TheVariants.{Memory}

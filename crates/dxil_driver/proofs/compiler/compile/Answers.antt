@@ -1,9 +1,8 @@
 use mathlib.Core.Logic.{inl, inr}
-use Rattle.std.proofs.Common.{◌≡◌, ◌∙◌, ℕ, ◌≤◌, List, length, sym, ap, subst, arith}
-use Rattle.std.specs.Prelude.{Result, Ok, Err, ◌⊎◌, IfOk, IfErr, OnOk}
+use Rattle.std.proofs.Common.{◌≡◌, ◌∙◌, ℕ, List, sym, ap, subst, arith}
+use Rattle.std.specs.Prelude.{Result, Err, ◌⊎◌, IfOk, IfErr}
 use Rattle.std.specs.Result.{IsErrOf}
-use Rattle.hl_lexer.specs.Tokens.{lexemes_of}
-use Rattle.dxil_driver.specs.Compiled.{Compiled, HasFirstForm, most_source}
+use Rattle.dxil_driver.specs.Compiled.{Compiled, HasFirstForm}
 use Rattle.dxil_driver.specs.CompileFaults.{HasFault, of_tokens}
 use Rattle.dxil_driver.specs.declared.compiler.CompileFault.{CompileFault}
 use Rattle.dxil_driver.specs.declared.compiler.CompileFault.TheVariants.{Memory}

@@ -1,9 +1,5 @@
-use mathlib.Core.Logic.{inl, inr}
-use Rattle.std.proofs.Common.{◌≡◌}
-use Rattle.std.specs.Prelude.{Result, Ok, Err, ◌⊎◌}
 use Rattle.hl_lexer.specs.Tokens.{lexemes_of}
 use Rattle.hl_parser.specs.Views.{plain_of}
-use Rattle.dxil_driver.specs.declared.compiler.CompileFault.{CompileFault}
 use Rattle.dxil_driver.proofs.Compiling.{tree_complete, tree_every, no_error}
 use Rattle.dxil_driver.proofs.compiler.compile_tokens.Goals as goal
 

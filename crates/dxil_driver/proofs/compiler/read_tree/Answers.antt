@@ -1,5 +1,5 @@
 use mathlib.Core.Logic.{inl}
-use Rattle.std.proofs.Common.{◌≡◌, ap, subst, ℕ}
+use Rattle.std.proofs.Common.{ap, subst, ℕ}
 use Rattle.std.specs.Prelude.{Ok, Err}
 use Rattle.hl_parser.specs.Grammar.{IsSyntaxFault}
 use Rattle.hl_parser.specs.Parsing.{GivesFault, GivesTree, IsFault, SpellsTooDeep, terminals_of}

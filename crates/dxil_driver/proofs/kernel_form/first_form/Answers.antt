@@ -1,4 +1,4 @@
-use Rattle.std.proofs.Common.{◌≡◌, ◌∙◌, sym, ap, subst, map, List}
+use Rattle.std.proofs.Common.{◌≡◌, subst, map, List}
 use Rattle.std.specs.Prelude.{IfOk}
 use Rattle.hl_lexer.specs.declared.token.Token.{Token}
 use Rattle.hl_lexer.specs.Tokens.{lexeme_of, lexemes_of}

@@ -1,4 +1,4 @@
-use Rattle.std.proofs.Common.{◌≡◌, ◌∙◌, sym, ap, map, length, ◌==◌}
+use Rattle.std.proofs.Common.{◌∙◌, ap, map, length, ◌==◌}
 use Rattle.std.proofs.lemmas.Bool.{both_ways}
 use Rattle.hl_lexer.specs.Tokens.{lexeme_of}
 use Rattle.dxil_driver.proofs.Recognised.{stores_without}

@@ -1,4 +1,4 @@
-use Rattle.std.proofs.Common.{◌≡◌, ◌∙◌, sym, ap, Some}
+use Rattle.std.proofs.Common.{◌∙◌, sym, ap, Some}
 use Rattle.hl_parser.specs.declared.tree.Tree.{Tree}
 use Rattle.hl_parser.specs.Views.{plain_of}
 use Rattle.dxil_driver.proofs.TreeForms.{call_there, call_without, no_value}

@@ -1,5 +1,4 @@
 use mathlib.Core.Logic.{inl, inr}
-use Rattle.std.proofs.Common.{◌≡◌, true}
 use Rattle.dxil_driver.proofs.TreeForms.{token_there, token_without}
 use Rattle.dxil_driver.proofs.tree_parts.token.Goals as goal
 use Rattle.dxil_driver.proofs.tree_parts.token.Goals.{else-is_none-via-then-is_none+else-is_none-2, else-is_none-via-else-is_none}

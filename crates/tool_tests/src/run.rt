@@ -114,8 +114,15 @@ fn compile_run(rt: &HostRuntime, text: Bytes) -> Result<Run, Fail> {
 
 #[test]
 fn texts_are_refused(rt: HostRuntime) -> Result<(), Fail> {
-    let texts: [(&[u8], &[u8]); 6] = [
+    let texts: [(&[u8], &[u8]); 10] = [
         (b"", b"1:1: syntax\n"),
+        (
+            b"[numthreads(1,1,1)] void main() { a b c }",
+            b"1:39: syntax\n",
+        ),
+        (b"void f( { }", b"1:9: syntax\n"),
+        (b"void f() {", b"1:11: syntax\n"),
+        (b"void f() { else", b"1:12: syntax\n"),
         (b"4294967296", b"1:1: number too large\n"),
         (b"void f() { /* }", b"1:12: bad byte\n"),
         (b"void f() {\n\tint if;\n}", b"2:6: syntax\n"),

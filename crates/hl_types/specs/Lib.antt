@@ -1,0 +1,13 @@
+pub mod Constants
+pub mod DeclarationRules
+pub mod Declarations
+pub mod ExpressionRules
+pub mod Intrinsics
+pub mod Operands
+pub mod Overloads
+pub mod Parts
+pub mod Rules
+pub mod Scopes
+pub mod Sites
+pub mod Source
+pub mod Values

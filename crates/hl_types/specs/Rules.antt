@@ -1,0 +1,43 @@
+-- Broken rules: the tokens of a program at which one of the 42 rules is broken.
+use Rattle.std.specs.Prelude.{◌≡◌, ℕ, ◌<◌, ◌≤◌, ◌⊎◌, List, ◌++◌, map, Contains}
+use Rattle.hl_lexer.specs.Tokens.{Lexeme}
+use Rattle.hl_parser.specs.Trees.{Tree}
+use Rattle.hl_types.specs.DeclarationRules.{rule_1, rule_2, rule_3, rule_4, rule_5, rule_6, rule_7, rule_8, rule_9, rule_10, rule_11, rule_12, rule_13, rule_14, rule_15, rule_16, rule_17, rule_21, rule_42}
+use Rattle.hl_types.specs.ExpressionRules.{rule_18, rule_19, rule_20, rule_22, rule_23, rule_24, rule_25, rule_26, rule_27, rule_28, rule_29, rule_30, rule_31, rule_32, rule_33, rule_34, rule_35, rule_36, rule_37, rule_38, rule_39, rule_40, rule_41}
+use Rattle.hl_types.specs.Parts.{Part, Site}
+use Rattle.hl_types.specs.Scopes.{Scope}
+use Rattle.hl_types.specs.Sites.{program_sites}
+
+-- a rule that is broken at a token
+pub record Broken : Type 0 where
+  pub at : ℕ
+  pub rule : ℕ
+
+abbrev pub breaking : (rule : ℕ) → List ℕ → List Broken
+breaking rule tokens = map (λ at. record { at = at; rule = rule }) tokens
+
+-- what a part breaks
+abbrev pub broken_by : Scope → Part → List Broken
+broken_by s part =
+    breaking 1 (rule_1 s part) ++ (breaking 2 (rule_2 s part) ++ (breaking 3 (rule_3 s part) ++ (breaking 4 (rule_4 s part)
+    ++ (breaking 5 (rule_5 s part) ++ (breaking 6 (rule_6 s part) ++ (breaking 7 (rule_7 s part) ++ (breaking 8 (rule_8 s part)
+    ++ (breaking 9 (rule_9 s part) ++ (breaking 10 (rule_10 s part) ++ (breaking 11 (rule_11 s part) ++ (breaking 12 (rule_12 s part)
+    ++ (breaking 13 (rule_13 s part) ++ (breaking 14 (rule_14 s part) ++ (breaking 15 (rule_15 s part) ++ (breaking 16 (rule_16 s part)
+    ++ (breaking 17 (rule_17 s part) ++ (breaking 18 (rule_18 s part) ++ (breaking 19 (rule_19 s part) ++ (breaking 20 (rule_20 s part)
+    ++ (breaking 21 (rule_21 s part) ++ (breaking 22 (rule_22 s part) ++ (breaking 23 (rule_23 s part) ++ (breaking 24 (rule_24 s part)
+    ++ (breaking 25 (rule_25 s part) ++ (breaking 26 (rule_26 s part) ++ (breaking 27 (rule_27 s part) ++ (breaking 28 (rule_28 s part)
+    ++ (breaking 29 (rule_29 s part) ++ (breaking 30 (rule_30 s part) ++ (breaking 31 (rule_31 s part) ++ (breaking 32 (rule_32 s part)
+    ++ (breaking 33 (rule_33 s part) ++ (breaking 34 (rule_34 s part) ++ (breaking 35 (rule_35 s part) ++ (breaking 36 (rule_36 s part)
+    ++ (breaking 37 (rule_37 s part) ++ (breaking 38 (rule_38 s part) ++ (breaking 39 (rule_39 s part) ++ (breaking 40 (rule_40 s part)
+    ++ (breaking 41 (rule_41 s part) ++ breaking 42 (rule_42 s part)))))))))))))))))))))))))))))))))))))))))
+
+-- A rule is broken at a token of a program: somewhere in it stands a part that breaks it there.
+pub record Breaks (tree : Tree) (tokens : List Lexeme) (entry : List ℕ) (at rule : ℕ) : Type 0 where
+  pub place : Site
+  pub stands : Contains (program_sites tokens entry tree) place
+  pub breaks : Contains (broken_by place.scope place.part) (record { at = at; rule = rule })
+
+-- This rule is broken at this token, and none at an earlier one, nor a lesser one at this one.
+pub record BreaksFirst (tree : Tree) (tokens : List Lexeme) (entry : List ℕ) (at rule : ℕ) : Type 0 where
+  pub breaks : Breaks tree tokens entry at rule
+  pub first : (other_at other : ℕ) → Breaks tree tokens entry other_at other → (at < other_at) ⊎ (at ≡ other_at) × (rule ≤ other)

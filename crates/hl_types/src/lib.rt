@@ -1,0 +1,2 @@
+//! The typing rules of the language, and the typed program of a tree.
+#![tactic(auto)]

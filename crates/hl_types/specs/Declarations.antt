@@ -145,9 +145,9 @@ abbrev pub members_info : Scope → Trees → List MemberInfo
 members_info s no_trees = []
 members_info s (more_trees first rest) = member_info s first ++ members_info s rest
 
-abbrev pub struct_info : Scope → (members : Trees) → StructInfo
-struct_info s members =
-    record { members = members_info s members; words = members_words s.structs (members_info s members) }
+abbrev pub struct_info : Scope → (name : ℕ) → (members : Trees) → StructInfo
+struct_info s name members =
+    record { name = spelled s name; members = members_info s members; words = members_words s.structs (members_info s members) }
 
 abbrev pub is_writable_kind : Terminal → Bool
 is_writable_kind terminals.RwByteAddressBuffer = true
@@ -199,7 +199,7 @@ with_constant s ty declarator init =
 abbrev pub after_item : Scope → Tree → Scope
 after_item s (an_item at item) = after_item s item
 after_item s (a_struct at name members) =
-    with_global (named (spelled s name) (a_struct_name (length s.structs))) (record s { structs = s.structs ++ struct_info s members ∷ [] })
+    with_global (named (spelled s name) (a_struct_name (length s.structs))) (record s { structs = s.structs ++ struct_info s name members ∷ [] })
 after_item s (a_buffer at kind name register space) =
     with_global (named (spelled s name) (a_buffer_name (length s.buffers))) (record s { buffers = s.buffers ++ buffer_info s kind ∷ [] })
 after_item s (a_shared at type declarators) = after_shared (named_type s type) s declarators

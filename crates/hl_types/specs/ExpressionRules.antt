@@ -12,7 +12,7 @@ use Rattle.hl_meaning.specs.Conversions.{converts}
 use Rattle.hl_types.specs.Constants.{basic_type, constant_number, tree_count}
 use Rattle.hl_types.specs.Declarations.{is_there}
 use Rattle.hl_types.specs.DeclarationRules.{broken_if, is_known}
-use Rattle.hl_types.specs.Intrinsics.{atomic_form, intrinsic_named, Method, method_of}
+use Rattle.hl_types.specs.Intrinsics.{interlocked_form, intrinsic_named, Method, method_of}
 use Rattle.hl_types.specs.Overloads.{Choice, Passed, is_ambiguous, none_fits}
 use Rattle.hl_types.specs.Parts.{Part, a_call, a_cast, a_condition, a_constructor, a_conversion, a_dot, a_function_attribute, a_loop_jump, a_method_call, a_return, a_statement_attribute, a_use, a_written_side, an_index, an_operand}
 use Rattle.hl_types.specs.Scopes.{BufferInfo, Scope, Sort, a_function_name, sort_at, spelled}
@@ -266,7 +266,7 @@ is_no_target v = is_no_memory v.standing || is_known (λ ty. not (is_word ty)) (
     is_no_memory (a_place writable atomic letters) = not atomic
 
 abbrev pub is_interlocked : Option Sort → List ℕ → Bool
-is_interlocked None name = is_some (option_and_then atomic_form (intrinsic_named name))
+is_interlocked None name = is_some (option_and_then interlocked_form (intrinsic_named name))
 is_interlocked (Some sort) name = false
 
 abbrev pub untargeted : Scope → Trees → List ℕ

@@ -55,18 +55,18 @@ pub data Presence : Type 0 where
 
 -- an interlocked operation: whether it compares, whether it has an original, and its kind for an int and for a uint. A
 -- compare exchange has none
-pub record AtomicForm : Type 0 where
+pub record InterlockedForm : Type 0 where
   pub compares : Bool
   pub original : Presence
   pub signed : Option AtomicKind
   pub unsigned : Option AtomicKind
 
-abbrev pub atomic : Bool → Presence → Option AtomicKind → Option AtomicKind → AtomicForm
+abbrev pub atomic : Bool → Presence → Option AtomicKind → Option AtomicKind → InterlockedForm
 atomic compares original signed unsigned = record { compares = compares; original = original; signed = signed; unsigned = unsigned }
 
 -- the interlocked operations, whose first one is the intrinsic function 11
-abbrev pub atomic_forms : List AtomicForm
-atomic_forms =
+abbrev pub interlocked_forms : List InterlockedForm
+interlocked_forms =
     atomic false perhaps_there (Some Add) (Some Add) ∷
     atomic false perhaps_there (Some And) (Some And) ∷
     atomic false perhaps_there (Some Or) (Some Or) ∷
@@ -81,8 +81,8 @@ abbrev pub first_atomic : ℕ
 first_atomic = 11
 
 -- the interlocked operation of an intrinsic function's number
-abbrev pub atomic_form : ℕ → Option AtomicForm
-atomic_form number = if nat_le first_atomic number then slice_get atomic_forms (number - first_atomic) else None
+abbrev pub interlocked_form : ℕ → Option InterlockedForm
+interlocked_form number = if nat_le first_atomic number then slice_get interlocked_forms (number - first_atomic) else None
 
 -- what stands behind the target or the address
 pub record Operands (A : Type 0) : Type 0 where
@@ -102,7 +102,7 @@ may_be_present never_there = false
 may_be_present _ = true
 
 -- the operands of an interlocked operation, in the order compare, value, original, where their number is right
-abbrev pub operands_of : {A : Type 0} → AtomicForm → List A → Option (Operands A)
+abbrev pub operands_of : {A : Type 0} → InterlockedForm → List A → Option (Operands A)
 operands_of {A} form args = split form.compares args
   where
     split : Bool → List A → Option (Operands A)
@@ -119,7 +119,7 @@ operands_of {A} form args = split form.compares args
 pub data Method : Type 0 where
   loads_words : (count : ℕ) → Method
   stores_words : (count : ℕ) → Method
-  does_atomic : (form : AtomicForm) → Method
+  does_atomic : (form : InterlockedForm) → Method
   loads_element : Method
 
 pub record MethodRow : Type 0 where
@@ -153,8 +153,8 @@ abbrev pub method_among : List ℕ → List MethodRow → Option Method
 method_among name rows = option_map (λ r. r.method) (find (λ r. bytes_eq r.name name) rows)
 
 -- the interlocked methods have the names of the intrinsic functions
-abbrev pub atomic_named : List ℕ → Option AtomicForm
-atomic_named name = option_and_then atomic_form (intrinsic_named name)
+abbrev pub atomic_named : List ℕ → Option InterlockedForm
+atomic_named name = option_and_then interlocked_form (intrinsic_named name)
 
 -- the first of two that is there
 abbrev pub or_else : {A : Type 0} → Option A → Option A → Option A

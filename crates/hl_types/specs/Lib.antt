@@ -1,8 +1,11 @@
 pub mod Constants
 pub mod DeclarationRules
 pub mod Declarations
+pub mod Elaboration
 pub mod ExpressionRules
+pub mod Expressions
 pub mod Intrinsics
+pub mod Nodes
 pub mod Operands
 pub mod Overloads
 pub mod Parts
@@ -10,4 +13,5 @@ pub mod Rules
 pub mod Scopes
 pub mod Sites
 pub mod Source
+pub mod Statements
 pub mod Values

@@ -21,8 +21,9 @@ pub record MemberInfo : Type 0 where
   pub name : List ℕ
   pub ty : Option Ty
 
--- a struct: its members in order, and its words where all of them have types
+-- a struct: its name, its members in order, and its words where all of them have types
 pub record StructInfo : Type 0 where
+  pub name : List ℕ
   pub members : List MemberInfo
   pub words : Option ℕ
 

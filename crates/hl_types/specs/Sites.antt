@@ -305,7 +305,7 @@ shared_sites ty s (more_trees first rest) =
 abbrev pub item_sites : Scope → Tree → List Site
 item_sites s (an_item at item) = item_sites s item
 item_sites s (a_struct at name members) =
-    site s (a_global_name name) ∷ site s (a_whole_struct name (struct_info s members).words) ∷ members_sites s [] members
+    site s (a_global_name name) ∷ site s (a_whole_struct name (struct_info s name members).words) ∷ members_sites s [] members
 item_sites s (a_buffer at kind name register space) =
     element_sites s kind ++ (site s (a_global_name name) ∷ register_sites s (buffer_info s kind).writable register space)
 item_sites s (a_shared at type declarators) = type_sites s type ++ shared_sites (named_type s type) s declarators

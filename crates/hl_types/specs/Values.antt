@@ -11,7 +11,7 @@ use Rattle.hl_meaning.specs.Trees.{Root, shared_root}
 use Rattle.hl_meaning.specs.Intrinsics.{signature_of}
 use Rattle.hl_meaning.specs.Places.{is_without_repeats}
 use Rattle.hl_types.specs.Constants.{basic_type, constant_number}
-use Rattle.hl_types.specs.Intrinsics.{AtomicForm, Method, Operands, atomic_form, does_atomic, intrinsic_named, loads_element, loads_words, method_of, operands_of, passed, stores_words}
+use Rattle.hl_types.specs.Intrinsics.{InterlockedForm, Method, Operands, interlocked_form, does_atomic, intrinsic_named, loads_element, loads_words, method_of, operands_of, passed, stores_words}
 use Rattle.hl_types.specs.Operands.{choice_type, negated_type, of_three, of_two, operator_type, signed_type}
 use Rattle.hl_types.specs.Overloads.{Choice, Passed, choice_of, is_chosen}
 use Rattle.hl_types.specs.Scopes.{BufferInfo, FunctionInfo, MemberInfo, ParamInfo, Scope, Sort, StructInfo, a_buffer_name, a_function_name, a_variable_name, sort_at, spelled}
@@ -279,7 +279,7 @@ abbrev pub target_fits : Option Ty → Operands Value → Bool
 target_fits None o = true
 target_fits (Some ty) o = if is_word ty then operands_fit (ty_eq ty) o else true
 
-abbrev pub atomic_fits : AtomicForm → List Value → Bool
+abbrev pub atomic_fits : InterlockedForm → List Value → Bool
 atomic_fits form [] = false
 atomic_fits form (target ∷ values) = fits (operands_of form values)
   where
@@ -289,9 +289,9 @@ atomic_fits form (target ∷ values) = fits (operands_of form values)
 
 -- what a call of an intrinsic function gives, where its arguments fit; they all have types
 abbrev pub intrinsic_result : ℕ → List Value → List Ty → Option Ty
-intrinsic_result number args types = atomic_or (atomic_form number)
+intrinsic_result number args types = atomic_or (interlocked_form number)
   where
-    atomic_or : Option AtomicForm → Option Ty
+    atomic_or : Option InterlockedForm → Option Ty
     atomic_or (Some form) = if atomic_fits form args then Some void_type else None
     atomic_or None = option_map (λ p. p.gives) (option_and_then (λ signature. passed signature types) (signature_of number))
 

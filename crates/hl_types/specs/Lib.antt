@@ -5,6 +5,7 @@ pub mod Elaboration
 pub mod ExpressionRules
 pub mod Expressions
 pub mod Intrinsics
+pub mod Laws
 pub mod Nodes
 pub mod Operands
 pub mod Overloads

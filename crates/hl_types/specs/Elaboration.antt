@@ -15,7 +15,7 @@ use Rattle.hl_types.specs.Constants.{constant_number, declarator_type, named_typ
 use Rattle.hl_types.specs.DeclarationRules.{leaves_of, param_semantic, register_number, space_number}
 use Rattle.hl_types.specs.Declarations.{after_item, after_param, after_start, after_statement, at_params, buffer_info, in_body, locals_in, param_copying, with_shared, after_first}
 use Rattle.hl_types.specs.Expressions.{with_two, with_three}
-use Rattle.hl_types.specs.Rules.{Breaks}
+use Rattle.hl_types.specs.Rules.{BreaksNothing}
 use Rattle.hl_types.specs.Scopes.{BufferInfo, Scope, behind, first_scope, looped, opened, spelled, words_if}
 use Rattle.hl_types.specs.Sites.{is_entry, is_numthreads}
 use Rattle.hl_types.specs.Source.{terminal_at}
@@ -280,5 +280,5 @@ program_of tokens entry _ = None
 
 -- A tree that breaks no rule is elaborated to the program that it becomes.
 pub record Elaborates (tree : Tree) (tokens : List Lexeme) (entry : List ℕ) (program : Program) : Type 0 where
-  pub free : (at rule : ℕ) → ¬ Breaks tree tokens entry at rule
+  pub free : BreaksNothing tree tokens entry
   pub becomes : program_of tokens entry tree ≡ Some program

@@ -4,7 +4,7 @@ use Rattle.hl_lexer.specs.Tokens.{Lexeme}
 use Rattle.hl_parser.specs.Trees.{Tree}
 use Rattle.hl_meaning.specs.Programs.{Program}
 use Rattle.hl_types.specs.Elaboration.{Elaborates}
-use Rattle.hl_types.specs.Rules.{Breaks, BreaksFirst}
+use Rattle.hl_types.specs.Rules.{Breaks, BreaksFirst, IsFirstBroken, first_broken}
 
 -- a tree is elaborated to at most one program
 abbrev pub AtMostOneProgram : Type 0
@@ -17,3 +17,7 @@ AtMostOneFirst = (tree : Tree) (tokens : List Lexeme) (entry : List ℕ) (at rul
 -- a tree that breaks a rule is elaborated to no program
 abbrev pub NoProgram : Type 0
 NoProgram = (tree : Tree) (tokens : List Lexeme) (entry : List ℕ) (at rule : ℕ) (program : Program) → Breaks tree tokens entry at rule → ¬ Elaborates tree tokens entry program
+
+-- every tree breaks no rule, or has a first broken rule: what gathering over its sites finds
+abbrev pub OneFirst : Type 0
+OneFirst = (tree : Tree) (tokens : List Lexeme) (entry : List ℕ) → IsFirstBroken tree tokens entry (first_broken tree tokens entry)

@@ -4,6 +4,7 @@ pub mod Declarations
 pub mod Elaboration
 pub mod ExpressionRules
 pub mod Expressions
+pub mod Found
 pub mod Intrinsics
 pub mod Laws
 pub mod Nodes

@@ -1,6 +1,6 @@
 //! What holds of the rules and of elaboration for every tree, as clauses of functions that do nothing.
 
-ghost use Rattle.hl_types.specs.Laws.{AtMostOneFirst, AtMostOneProgram, NoProgram};
+ghost use Rattle.hl_types.specs.Laws.{AtMostOneFirst, AtMostOneProgram, NoProgram, OneFirst};
 
 /// A tree is elaborated to at most one program.
 pub fn at_most_one_program()
@@ -15,4 +15,9 @@ pub fn at_most_one_first()
 /// A tree that breaks a rule is elaborated to no program.
 pub fn no_program()
     ensures { NoProgram }
+{}
+
+/// Every tree breaks no rule, or has a first broken rule.
+pub fn one_first()
+    ensures { OneFirst }
 {}

@@ -1,2 +1,5 @@
 mod FirstLemmas
 pub mod Gathering
+pub mod Free
+pub mod TypeLemmas
+pub mod Becoming

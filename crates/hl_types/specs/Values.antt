@@ -178,12 +178,12 @@ operand_of (Some ty) = if is_basic ty then Some ty else None
 operand_of None = None
 
 -- whether a type is known, and no scalar or vector
+abbrev pub is_no_operand_type : Option Ty → Bool
+is_no_operand_type None = false
+is_no_operand_type (Some ty) = not (is_basic ty)
+
 abbrev pub is_no_operand : Option Ty → Bool
 is_no_operand ty = is_no_operand_type (valued ty)
-  where
-    is_no_operand_type : Option Ty → Bool
-    is_no_operand_type None = false
-    is_no_operand_type (Some ty) = not (is_basic ty)
 
 -- The value of an assignment has the type of its left side. A compound one has none where a side is no operand.
 abbrev pub assigned : Terminal → (left right : Option Ty) → Option Ty
@@ -372,9 +372,9 @@ abbrev pub standing_in : Scope → Tree → Standing
 standing_in s e = (value_of s e).standing
 
 -- whether an expression gives no value
+abbrev pub is_nothing : Option Ty → Bool
+is_nothing None = false
+is_nothing (Some ty) = is_void ty
+
 abbrev pub gives_nothing : Scope → Tree → Bool
 gives_nothing s e = is_nothing (value_of s e).ty
-  where
-    is_nothing : Option Ty → Bool
-    is_nothing None = false
-    is_nothing (Some ty) = is_void ty

@@ -3,3 +3,4 @@ pub mod Gathering
 pub mod Free
 pub mod TypeLemmas
 pub mod Becoming
+pub mod OperatorForms

@@ -4,3 +4,4 @@ pub mod Free
 pub mod TypeLemmas
 pub mod Becoming
 pub mod OperatorForms
+pub mod PlaceForms

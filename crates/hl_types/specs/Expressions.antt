@@ -37,23 +37,24 @@ word_code s _ at = None
 
 -- ---- members, swizzles and indexes
 
--- the member of a struct
-abbrev pub member_code : (at number : ℕ) → Ty → Code → Code
-member_code at number ty code = with_part at (member_part number) ty code
+-- a swizzle of so many components of a kind
+abbrev pub swizzled_code : (at : ℕ) → Kind → Option (List ℕ) → Code → Option Code
+swizzled_code at kind letters code =
+    option_map (λ found. with_part at (swizzle_part found) (components_type kind (length found)) code) letters
 
--- what `.` and a name gives
+-- the member of a name
+abbrev pub member_code : (at : ℕ) → Option ℕ → Option Ty → Code → Option Code
+member_code at number ty code = option_and_then (λ member. option_map (λ own. with_part at (member_part member) own code) ty) number
+
+-- what `.` and a name gives behind something of a type
+abbrev pub dotted_into : Scope → (at : ℕ) → List ℕ → Ty → Code → Option Code
+dotted_into s at name (struct_type number) code = member_code at (member_number (members_of s number) name) (member_type s number name) code
+dotted_into s at name (scalar_type kind) code = swizzled_code at kind (letters_within 1 name) code
+dotted_into s at name (vector_type kind size) code = swizzled_code at kind (letters_within size name) code
+dotted_into s at name _ code = None
+
 abbrev pub dotted_code : Scope → (at : ℕ) → List ℕ → Code → Option Code
-dotted_code s at name code = dotted (type_of_code code)
-  where
-    swizzled : Kind → Option (List ℕ) → Option Code
-    swizzled kind letters = option_map (λ found. with_part at (swizzle_part found) (components_type kind (length found)) code) letters
-
-    dotted : Ty → Option Code
-    dotted (struct_type number) =
-        option_and_then (λ member. option_map (λ ty. with_part at (member_part member) ty code) (member_type s number name)) (member_number (members_of s number) name)
-    dotted (scalar_type kind) = swizzled kind (letters_within 1 name)
-    dotted (vector_type kind size) = swizzled kind (letters_within size name)
-    dotted _ = None
+dotted_code s at name code = dotted_into s at name (type_of_code code) code
 
 -- the first token of an expression, without parentheses around the whole of it
 abbrev pub bare_at : Tree → ℕ
@@ -65,14 +66,14 @@ abbrev pub index_expr : (at : ℕ) → (number : Option ℕ) → Code → Option
 index_expr at (Some number) code = Some (an_expr uint_type at (literal_form number))
 index_expr at None code = converted_code uint_type code
 
--- what an index gives behind an array or a vector
+-- what an index gives behind something of a type, an array or a vector
+abbrev pub indexed_into : (at : ℕ) → Expr → Ty → Code → Option Code
+indexed_into at index (array_type element size) code = Some (with_part at (index_part index) element code)
+indexed_into at index (vector_type kind size) code = Some (with_part at (index_part index) (scalar_type kind) code)
+indexed_into at index _ code = None
+
 abbrev pub indexed_code : (at : ℕ) → Expr → Code → Option Code
-indexed_code at index code = indexed (type_of_code code)
-  where
-    indexed : Ty → Option Code
-    indexed (array_type element size) = Some (with_part at (index_part index) element code)
-    indexed (vector_type kind size) = Some (with_part at (index_part index) (scalar_type kind) code)
-    indexed _ = None
+indexed_code at index code = indexed_into at index (type_of_code code) code
 
 abbrev pub element_if : BufferInfo → Option Ty
 element_if buffer = if buffer.raw then None else buffer.element

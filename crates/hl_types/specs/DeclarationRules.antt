@@ -8,6 +8,7 @@ use Rattle.std.specs.Char.{is_ascii_digit}
 use Rattle.std.specs.Str.{str_eq_ignore_ascii_case}
 use Rattle.hl_lexer.specs.declared.terminal.Terminal.{Terminal}
 use Rattle.hl_lexer.specs.declared.terminal.Terminal.TheVariants as terminals
+use Rattle.hl_lexer.specs.Tokens.{Lexeme}
 use Rattle.hl_lexer.specs.Numbers.{digits_number, greatest_number}
 use Rattle.hl_parser.specs.Trees.{Tree, Trees, Maybe, absent, present, no_trees, more_trees, a_block, a_jump, a_param, a_primary, a_result, a_stmt, a_unary, an_attribute, an_if, an_init, at_of}
 use Rattle.hl_meaning.specs.declared.program.Copying.{Copying}
@@ -330,26 +331,27 @@ is_return_word terminals.Return = true
 is_return_word _ = false
 
 abbrev mutual
-  pub always_returns : Scope → Tree → Bool
-  always_returns s (a_stmt at part) = returns_if s part
-  always_returns s (a_block at statements) = one_returns s statements
-  always_returns s (an_if at attributes condition consequent alternative) = always_returns s consequent && returns_if s alternative
-  always_returns s (a_jump at value) = is_return_word (terminal_at s.tokens at)
-  always_returns s _ = false
+  pub always_returns : List Lexeme → Tree → Bool
+  always_returns tokens (a_stmt at part) = returns_if tokens part
+  always_returns tokens (a_block at statements) = one_returns tokens statements
+  always_returns tokens (an_if at attributes condition consequent alternative) =
+      always_returns tokens consequent && returns_if tokens alternative
+  always_returns tokens (a_jump at value) = is_return_word (terminal_at tokens at)
+  always_returns tokens _ = false
 
-  pub one_returns : Scope → Trees → Bool
-  one_returns s no_trees = false
-  one_returns s (more_trees first rest) = always_returns s first || one_returns s rest
+  pub one_returns : List Lexeme → Trees → Bool
+  one_returns tokens no_trees = false
+  one_returns tokens (more_trees first rest) = always_returns tokens first || one_returns tokens rest
 
-  pub returns_if : Scope → Maybe → Bool
-  returns_if s absent = false
-  returns_if s (present statement) = always_returns s statement
+  pub returns_if : List Lexeme → Maybe → Bool
+  returns_if tokens absent = false
+  returns_if tokens (present statement) = always_returns tokens statement
 
 -- 21. A function that isn't `void` can end without `return`: its block holds no statement that always returns (HLSL,
 -- "Return Statement").
 abbrev pub rule_21 : Scope → Part → List ℕ
 rule_21 s (a_whole_function attributes result name params block) =
-    broken_if (not (is_no_result result) && not (always_returns s block)) name
+    broken_if (not (is_no_result result) && not (always_returns s.tokens block)) name
 rule_21 s _ = []
 
 -- the greatest number of words of a declared type

@@ -1,12 +1,16 @@
 //! Programs as typed trees: their types, their layout, and how much they hold.
 #![tactic(auto)]
 
+mod counting;
 mod expression;
 mod intrinsic;
 mod layout;
 mod program;
+mod size;
 mod statement;
+mod statement_counting;
 mod sums;
+mod totals;
 mod ty;
 
 pub use expression::{Arg, Args, Expr, Exprs, Form, Location, PathPart, PathParts, Root, Target};
@@ -17,5 +21,6 @@ pub use program::{
     Parameters, Program, Resource, Resources, Semantic, StructDef, StructDefs, Variable, Variables,
 };
 pub use statement::{Stmt, Stmts};
-pub use sums::Sizes;
+pub use size::Sizes;
+pub use totals::sizes;
 pub use ty::{HlType, Kind};

@@ -5,3 +5,5 @@ pub mod SumLemmas
 pub mod ListSums
 pub mod KnownSums
 pub mod WordSums
+pub mod ProgramSums
+pub mod TypeLemmas

@@ -7,12 +7,14 @@ ghost use Rattle.hl_meaning.specs.Views.{plain_arg, plain_args, plain_expr, plai
 ghost use Rattle.hl_meaning.specs.Held.{HasWords};
 ghost use Rattle.hl_meaning.specs.Counters.{counted_by};
 
-use sqlite_items::Boxed;
-use crate::expression::{Args, Arg, Expr, Exprs, Form, Location, PathPart, PathParts, Root, Target};
+use crate::expression::{
+    Arg, Args, Expr, Exprs, Form, Location, PathPart, PathParts, Root, Target,
+};
 use crate::layout::stopped_words;
 use crate::program::{FunctionDef, StructDefs, Variable};
 use crate::statement::{Stmt, Stmts};
 use crate::sums::{Sums, stop};
+use sqlite_items::Boxed;
 
 /// What is known when a part is counted: the structs, and what each function holds that it may call.
 #[derive(Clone, Copy)]
@@ -63,7 +65,13 @@ fn form_sums(counter: &Counter, form: &Form) -> Sums
         Form::Method { address, value, .. } => {
             expr_sums(counter, address.get()).both(expr_if_sums(counter, value))
         }
-        Form::Atomic { target, compare, value, original, .. } => {
+        Form::Atomic {
+            target,
+            compare,
+            value,
+            original,
+            ..
+        } => {
             let written = location_if_sums(counter, original);
             let values = expr_sums(counter, value.get()).both(written);
             let values = expr_if_sums(counter, compare).both(values);

@@ -20,7 +20,7 @@ pub use program::{
     Constant, Constants, Copying, FunctionDef, FunctionDefs, Member, Members, Parameter,
     Parameters, Program, Resource, Resources, Semantic, StructDef, StructDefs, Variable, Variables,
 };
-pub use statement::{Stmt, Stmts};
 pub use size::Sizes;
+pub use statement::{Stmt, Stmts};
 pub use totals::sizes;
 pub use ty::{HlType, Kind};

@@ -4,7 +4,6 @@ ghost use Rattle.std.specs.Prelude.{◌≡◌, map, option_map};
 ghost use Rattle.hl_meaning.specs.Stopping.{stopped};
 ghost use Rattle.hl_meaning.specs.Sums.{constant_words, expr_option_sums, function_sums, stmt_if_sums, stmt_sums, stmts_sums, stop_all, variable_words};
 ghost use Rattle.hl_meaning.specs.Views.{plain_constant, plain_expr, plain_function, plain_maybe_stmt, plain_stmt, plain_stmts, plain_structs, plain_variable};
-
 ghost use Rattle.hl_meaning.specs.Held.{HasWords};
 ghost use Rattle.hl_meaning.specs.Counters.{counted_by};
 
@@ -30,16 +29,25 @@ fn stmt_sums(counter: &Counter, stmt: &Stmt) -> Sums
             let branches = stmt_sums(counter, yes.get()).both(stmt_if_sums(counter, no));
             expr_sums(counter, cond).both(branches).branch()
         }
-        Stmt::For { init, cond, step, body } => {
+        Stmt::For {
+            init,
+            cond,
+            step,
+            body,
+        } => {
             let turn = option_sums(counter, step).both(stmt_sums(counter, body.get()));
             let turns = option_sums(counter, cond).both(turn);
             stmts_sums(counter, init).both(turns).branch()
         }
         Stmt::While { cond, body } => {
-            expr_sums(counter, cond).both(stmt_sums(counter, body.get())).branch()
+            expr_sums(counter, cond)
+                .both(stmt_sums(counter, body.get()))
+                .branch()
         }
         Stmt::Do { body, cond } => {
-            stmt_sums(counter, body.get()).both(expr_sums(counter, cond)).branch()
+            stmt_sums(counter, body.get())
+                .both(expr_sums(counter, cond))
+                .branch()
         }
         Stmt::Break => Sums::NOTHING.branch(),
         Stmt::Continue => Sums::NOTHING.branch(),

@@ -14,7 +14,7 @@ use Rattle.std.proofs.lemmas.List.{length_push}
 use Rattle.hl_meaning.specs.declared.program.StructDef as held_struct
 use Rattle.hl_meaning.specs.Views.{plain_struct, plain_structs}
 use Rattle.hl_meaning.specs.Held.{HasWords}
-use Rattle.hl_meaning.specs.Sums.{stopped}
+use Rattle.hl_meaning.specs.Stopping.{stopped}
 
 pub stopped-below : (n : ℕ) → n ≤ 4294967296 → stopped n ≡ n
 stopped-below n h = omega (arith, h)

@@ -1,6 +1,6 @@
 -- How many words a type has, and where the parts of a struct stand. A scalar is one word of 32 bits, and there is no
 -- padding. The order of the parts is that of HLSL ("Types", "Structures"); the words are this project's own.
-use Rattle.std.specs.Prelude.{ℕ, zero, suc, ◌*◌, List, [], ◌∷◌, ◌++◌, map, replicate, sum, take, unwrap_or, slice_get}
+use Rattle.std.specs.Prelude.{ℕ, zero, suc, ◌*◌, List, [], ◌∷◌, ◌++◌, replicate, sum_by, take, unwrap_or, slice_get}
 use Rattle.hl_meaning.specs.declared.ty.Kind.{Kind}
 use Rattle.hl_meaning.specs.Types.{Ty, array_type, scalar_type, struct_type, vector_type, void_type}
 use Rattle.hl_meaning.specs.Programs.{Member, StructDef}
@@ -15,7 +15,7 @@ words_in structs (struct_type number) = unwrap_or (slice_get structs number) 0
 
 -- the words of members, one after another
 abbrev pub member_words : List ℕ → List Member → ℕ
-member_words structs members = sum (map (λ m. words_in structs m.ty) members)
+member_words structs members = sum_by (λ m. words_in structs m.ty) members
 
 -- The words of each struct, behind those of the structs before them. A member names earlier structs alone.
 abbrev pub struct_words_after : List ℕ → List StructDef → List ℕ

@@ -8,5 +8,8 @@ pub mod Views
 pub mod Layout
 pub mod Places
 pub mod WellFormed
+pub mod Stopping
 pub mod Sums
+pub mod Sizes
 pub mod Held
+pub mod Counters

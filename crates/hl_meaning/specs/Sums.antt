@@ -1,16 +1,11 @@
 -- How much a program holds, with all calls replaced by what they call. The sums and what counts in them are this
 -- project's own.
-use Rattle.std.specs.Prelude.{ℕ, suc, ◌+◌, ◌*◌, max, min, List, [], ◌∷◌, ◌++◌, map, sum, Option, Some, None, slice_get, unwrap_or}
-use Rattle.hl_meaning.specs.declared.sums.Sizes.{Sizes}
+use Rattle.std.specs.Prelude.{ℕ, suc, ◌+◌, ◌*◌, max, min, List, [], ◌∷◌, ◌++◌, sum_by, Option, Some, None, slice_get, unwrap_or}
+use Rattle.hl_meaning.specs.declared.sums.Sums.{Sums}
+use Rattle.hl_meaning.specs.Stopping.{stopped}
 use Rattle.hl_meaning.specs.Trees.{Arg, Args, Expr, Exprs, Form, Location, MaybeExpr, MaybeLocation, MaybeStmt, PathPart, PathParts, Root, Stmt, Stmts, Target, a_location, an_expr, atomic_form, binary_form, block_stmt, break_stmt, build_form, bytes_target, call_form, choose_form, continue_stmt, convert_form, do_stmt, element_root, for_stmt, if_stmt, index_part, intrinsic_form, literal_form, local_stmt, method_form, more_args, more_exprs, more_parts, more_stmts, no_args, no_expr, no_exprs, no_location, no_parts, no_stmt, no_stmts, pick_form, place_arg, place_target, read_form, return_stmt, run_stmt, some_expr, some_location, some_stmt, unary_form, value_arg, while_stmt, write_form}
-use Rattle.hl_meaning.specs.Programs.{FunctionDef, Program, StructDef, Variable}
+use Rattle.hl_meaning.specs.Programs.{Constant, FunctionDef, Program, StructDef, Variable}
 use Rattle.hl_meaning.specs.Layout.{words_of}
-
-pub record Sums : Type 0 where
-  pub size : ℕ
-  pub branches : ℕ
-  pub depth : ℕ
-  pub private_words : ℕ
 
 abbrev pub nothing : Sums
 nothing = record { size = 0; branches = 0; depth = 0; private_words = 0 }
@@ -144,7 +139,7 @@ abbrev mutual
 
 -- the words of variables together
 abbrev pub variable_words : List StructDef → List Variable → ℕ
-variable_words structs variables = sum (map (λ v. words_of structs v.ty) variables)
+variable_words structs variables = sum_by (λ v. words_of structs v.ty) variables
 
 -- words of memory, which count in two sums
 abbrev pub memory : (size private_words : ℕ) → Sums
@@ -163,24 +158,20 @@ functions_sums structs before (f ∷ functions) =
     functions_sums structs (before ++ function_sums (record { structs = structs; functions = before }) f ∷ []) functions
 
 -- the words of the constants together
-abbrev pub constant_words : Program → ℕ
-constant_words p = variable_words p.structs (map (λ c. c.variable) p.constants)
+abbrev pub constant_words : List StructDef → List Constant → ℕ
+constant_words structs constants = sum_by (λ c. words_of structs c.variable.ty) constants
 
 -- what the entry holds, and the constants
 abbrev pub program_sums : Program → Sums
 program_sums p = both
     (unwrap_or (slice_get (functions_sums p.structs [] p.functions) p.entry) nothing)
-    (memory (constant_words p) (constant_words p))
+    (memory (constant_words p.structs p.constants) (constant_words p.structs p.constants))
 
--- where a sum stops: 2^32
-abbrev pub stopped : ℕ → ℕ
-stopped n = min n 4294967296
-
-abbrev pub sizes_of : Program → Sizes
-sizes_of p = record {
-  size = stopped (program_sums p).size;
-  branches = stopped (program_sums p).branches;
-  depth = stopped (program_sums p).depth;
-  shared_bytes = stopped (4 * variable_words p.structs p.shared);
-  private_words = stopped (program_sums p).private_words;
+-- each sum stops
+abbrev pub stop_all : Sums → Sums
+stop_all s = record {
+  size = stopped s.size;
+  branches = stopped s.branches;
+  depth = stopped s.depth;
+  private_words = stopped s.private_words;
 }

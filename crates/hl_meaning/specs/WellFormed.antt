@@ -1,5 +1,5 @@
 -- What every program keeps: all numbers name what is there, and each node has the type that its place needs.
-use Rattle.std.specs.Prelude.{◌≡◌, ℕ, suc, ◌*◌, ◌^◌, ◌<◌, ◌≤◌, ◌&&◌, ◌||◌, not, Bool, true, false, List, [], ◌∷◌, map, sum, take, length, IsTrue, Option, Some, None, option_map, slice_get}
+use Rattle.std.specs.Prelude.{◌≡◌, ℕ, suc, ◌*◌, ◌^◌, ◌<◌, ◌≤◌, ◌&&◌, ◌||◌, not, Bool, true, false, List, [], ◌∷◌, map, sum_by, take, length, IsTrue, Option, Some, None, option_map, slice_get}
 use Rattle.std.specs.List.{All, list_all}
 use Rattle.lane_core.specs.declared.event.AtomicKind.{AtomicKind}
 use Rattle.lane_core.specs.declared.event.AtomicKind.TheVariants.{IMin, IMax, UMin, UMax, Exchange}
@@ -59,7 +59,7 @@ Assigns (Some op) to common value old =
 
 -- The components of the parts, each of the kind of the whole, are those of the whole.
 abbrev pub Builds : Ty → List Ty → Type 0
-Builds ty types = IsTrue (is_basic ty) × IsTrue (list_all (is_alike ty) types) × (sum (map component_count types) ≡ component_count ty)
+Builds ty types = IsTrue (is_basic ty) × IsTrue (list_all (is_alike ty) types) × (sum_by component_count types ≡ component_count ty)
 
 -- min and max are signed for int, and unsigned for uint
 abbrev pub is_kind_for : AtomicKind → Ty → Bool

@@ -4,22 +4,13 @@
 ghost use Rattle.std.specs.Prelude.{◌≡◌, ◌<◌, ◌≤◌, length, slice_get};
 ghost use Rattle.hl_meaning.specs.Layout.{words_of};
 ghost use Rattle.hl_meaning.specs.Views.{plain_structs, plain_ty};
-ghost use Rattle.hl_meaning.specs.Sums.{stopped};
+ghost use Rattle.hl_meaning.specs.Stopping.{stopped};
 ghost use Rattle.hl_meaning.specs.Held.{HasMember, HasWords, offset_in, plain_program};
 ghost use Rattle.hl_meaning.specs.WellFormed.{most_words};
 
 use crate::program::{Program, StructDef, StructDefs};
+use crate::sums::stop;
 use crate::ty::HlType;
-
-/// Where sums stop.
-pub(crate) const MOST: u64 = 4294967296;
-
-/// A sum that stops at 4294967296.
-pub(crate) fn stop(sum: u64) -> u64
-    ensures { result ≡ stopped sum }
-{
-    sum.min(MOST)
-}
 
 /// The words of a type, which stop at 4294967296.
 pub(crate) fn stopped_words(structs: &StructDefs, ty: &HlType) -> u64

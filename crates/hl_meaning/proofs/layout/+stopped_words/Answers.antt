@@ -1,5 +1,5 @@
 use Rattle.std.proofs.Common.{◌≡◌, ◌∙◌, sym, ap, ◌*◌, ◌<◌, ◌^◌, arith, rules}
-use Rattle.hl_meaning.specs.Sums.{stopped}
+use Rattle.hl_meaning.specs.Stopping.{stopped}
 use Rattle.hl_meaning.specs.Layout.{words_of}
 use Rattle.hl_meaning.specs.Views.{plain_structs, plain_ty}
 use Rattle.hl_meaning.proofs.Plain.{plain_ty-Void, plain_ty-Scalar, plain_ty-Vector, plain_ty-Array, plain_ty-Struct}

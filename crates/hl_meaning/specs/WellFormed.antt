@@ -57,9 +57,13 @@ Assigns None to common value old = (common ≡ to) × (value ≡ to) × (old ≡
 Assigns (Some op) to common value old =
     IsTrue (is_among computing op) × (value ≡ common) × IsTrue (is_numeric common) × IsTrue (converts to common) × IsTrue (converts common to) × IsTrue (not old || is_among stepping op)
 
--- The components of the parts, each of the kind of the whole, are those of the whole.
-abbrev pub Builds : Ty → List Ty → Type 0
-Builds ty types = IsTrue (is_basic ty) × IsTrue (list_all (is_alike ty) types) × (sum_by component_count types ≡ component_count ty)
+-- What a value is built of. A scalar or a vector has parts of its kind, with as many components together. An array or a
+-- struct, which only an initialiser in braces builds, has a scalar for each of its words, of the word's kind.
+abbrev pub Builds : List StructDef → Ty → List Ty → Type 0
+Builds structs void_type types = ⊥
+Builds structs (array_type element length) types = types ≡ map scalar_type (kinds_of structs (array_type element length))
+Builds structs (struct_type number) types = types ≡ map scalar_type (kinds_of structs (struct_type number))
+Builds structs ty types = IsTrue (list_all (is_alike ty) types) × (sum_by component_count types ≡ component_count ty)
 
 -- min and max are signed for int, and unsigned for uint
 abbrev pub is_kind_for : AtomicKind → Ty → Bool
@@ -111,7 +115,7 @@ abbrev mutual
       IsExpr s left × IsExpr s right × (type_of left ≡ type_of right) × (binary_type op (type_of left) ≡ Some ty)
   IsForm s ty (choose_form cond consequent alternative) =
       IsExpr s cond × IsExpr s consequent × IsExpr s alternative × (type_of cond ≡ with_kind BoolKind ty) × (type_of consequent ≡ ty) × (type_of alternative ≡ ty) × IsTrue (is_basic ty)
-  IsForm s ty (build_form parts) = AreExprs s parts × Builds ty (types_of parts)
+  IsForm s ty (build_form parts) = AreExprs s parts × Builds s.structs ty (types_of parts)
   IsForm s ty (pick_form value parts) =
       IsExpr s value × AreParts s parts × IsTrue (has_literal_indexes parts) × IsTrue (not (is_end parts)) × (path_type s.structs (type_of value) parts ≡ Some ty)
   IsForm s ty (call_form function args) =

@@ -139,6 +139,7 @@ obeys s part e =
     let r39 = one 39 (rule_39 s part) _ r38.1 in
     let r40 = one 40 (rule_40 s part) _ r39.1 in
     let r41 = one 41 (rule_41 s part) _ r40.1 in
+    let r42 = one 42 (rule_42 s part) _ r41.1 in
     record {
       obeys_1 = r1.0;
       obeys_2 = r2.0;
@@ -181,7 +182,7 @@ obeys s part e =
       obeys_39 = r39.0;
       obeys_40 = r40.0;
       obeys_41 = r41.0;
-      obeys_42 = breaking-none 42 (rule_42 s part) r41.1;
+      obeys_42 = r42.0;
     }
 
 pub free-first : (first : Site) (rest : List Site) → IsFree (first ∷ rest) → Obeys first.scope first.part

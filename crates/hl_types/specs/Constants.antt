@@ -2,6 +2,7 @@
 use Rattle.std.specs.Prelude.{ℕ, suc, ◌+◌, ◌-◌, ◌*◌, ◌&&◌, if◌then◌else◌, nat_le, Option, None, Some, option_map, option_and_then}
 use Rattle.hl_lexer.specs.declared.terminal.Terminal.{Terminal}
 use Rattle.hl_lexer.specs.declared.terminal.Terminal.TheVariants as terminals
+use Rattle.hl_lexer.specs.Numbers.{greatest_number}
 use Rattle.hl_parser.specs.Trees.{Tree, Trees, absent, present, no_trees, more_trees, a_binary, a_declarator, a_primary, a_result, a_type, at_of}
 use Rattle.hl_meaning.specs.declared.ty.Kind.TheVariants.{Bool as BoolKind, Int as IntKind, Uint as UintKind}
 use Rattle.hl_meaning.specs.Types.{Ty, array_type, scalar_type, struct_type, vector_type, void_type}
@@ -10,15 +11,11 @@ use Rattle.hl_types.specs.Source.{number_at, terminal_at}
 
 -- ---- constant numbers
 
--- the greatest constant number, 2^32 - 1
-abbrev pub greatest : ℕ
-greatest = 4294967295
-
 -- a sum, a difference or a product, by its mark, as a whole number that isn't below 0 nor above the greatest one
 abbrev pub sum_of : Terminal → ℕ → ℕ → Option ℕ
-sum_of terminals.Plus a b = if nat_le (a + b) greatest then Some (a + b) else None
+sum_of terminals.Plus a b = if nat_le (a + b) greatest_number then Some (a + b) else None
 sum_of terminals.Minus a b = if nat_le b a then Some (a - b) else None
-sum_of terminals.Star a b = if nat_le (a * b) greatest then Some (a * b) else None
+sum_of terminals.Star a b = if nat_le (a * b) greatest_number then Some (a * b) else None
 sum_of _ a b = None
 
 -- the constant number that a name is

@@ -16,6 +16,7 @@ use Rattle.hl_meaning.specs.declared.program.Copying.TheVariants.{CopyIn}
 use Rattle.hl_meaning.specs.declared.program.Semantic.{Semantic}
 use Rattle.hl_meaning.specs.declared.program.Semantic.TheVariants.{DispatchThreadId, GroupId, GroupThreadId, GroupIndex}
 use Rattle.hl_meaning.specs.Types.{Ty, component_count, is_numeric, is_scalar, ty_eq}
+use Rattle.hl_meaning.specs.WellFormed.{most_element_words, most_words}
 use Rattle.hl_types.specs.Constants.{array_length, constant_number, most_lengths, named_type}
 use Rattle.hl_types.specs.Declarations.{param_copying, param_type, params_info, at_params}
 use Rattle.hl_types.specs.Intrinsics.{intrinsic_named}
@@ -56,11 +57,15 @@ is_function_sort _ = false
 abbrev pub is_other_sort : (Sort → Bool) → Option Sort → Bool
 is_other_sort test sort = is_declared_sort (λ x. not (test x)) sort
 
+-- whether a global name is declared so far, as one of the sorts that pass
+abbrev pub is_global : (Sort → Bool) → Scope → (name : ℕ) → Bool
+is_global test s name = list_any (λ n. bytes_eq n.name (spelled s name) && test n.sort) s.globals
+
 -- 1. A global name other than a function's is declared a second time, or is also a function's (HLSL, "Scopes").
 abbrev pub rule_1 : Scope → Part → List ℕ
-rule_1 s (a_global_name name) = broken_if (is_some (declared_in s.globals (spelled s name))) name
+rule_1 s (a_global_name name) = broken_if (is_global (λ sort. true) s name) name
 rule_1 s (a_whole_function attributes result name params block) =
-    broken_if (is_other_sort is_function_sort (declared_in s.globals (spelled s name))) name
+    broken_if (is_global (λ sort. not (is_function_sort sort)) s name) name
 rule_1 s _ = []
 
 -- 2. A name is declared a second time in one block; parameters and the function's own block are one block (HLSL, "Scopes").
@@ -103,7 +108,7 @@ is_more most (Some words) = nat_lt most words
 
 -- 7. A structured buffer's element has more than 512 words (DirectX HLSL, "StructuredBuffer").
 abbrev pub rule_7 : Scope → Part → List ℕ
-rule_7 s (an_element type) = broken_if (is_more 512 (words_if s.structs (named_type s type))) (at_of type)
+rule_7 s (an_element type) = broken_if (is_more most_element_words (words_if s.structs (named_type s type))) (at_of type)
 rule_7 s _ = []
 
 -- a decimal number without zeros in front, at most 2^32 - 1
@@ -353,10 +358,6 @@ abbrev pub rule_21 : Scope → Part → List ℕ
 rule_21 s (a_whole_function attributes result name params block) =
     broken_if (not (is_no_result result) && not (always_returns s.tokens block)) name
 rule_21 s _ = []
-
--- the greatest number of words of a declared type
-abbrev pub most_words : ℕ
-most_words = 65536
 
 -- 42. A declared type has more than 65536 words, a struct among them; at the declared name (this project's own).
 abbrev pub rule_42 : Scope → Part → List ℕ

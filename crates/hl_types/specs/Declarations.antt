@@ -1,7 +1,7 @@
 -- What declarations make known (HLSL, "Declarations").
 --
--- A global name is known behind its declarator, and a local one behind its declarator and its initialiser. A function's
--- name is known in its own body, and a struct's behind the struct.
+-- A global variable's name is known behind its declarator, so a constant's in its own initialiser, and a local one's behind
+-- its declarator and its initialiser. A function's name is known in its own body, and a struct's behind the struct.
 use Rattle.std.specs.Prelude.{ℕ, suc, ◌+◌, not, Bool, true, false, if◌then◌else◌, List, [], ◌∷◌, ◌++◌, length, is_some, Option, None, Some}
 use Rattle.hl_lexer.specs.declared.terminal.Terminal.{Terminal}
 use Rattle.hl_lexer.specs.declared.terminal.Terminal.TheVariants as terminals
@@ -188,10 +188,18 @@ init_number s _ = None
 abbrev pub constant_value : Scope → Option Ty → (init : Tree) → Option ℕ
 constant_value s ty init = if is_number_type ty then init_number s init else None
 
-abbrev pub with_constant : Scope → Option Ty → (declarator init : Tree) → Scope
-with_constant s ty declarator init =
-    record (with_global (named (spelled s (at_of declarator)) (variable (constant_root s.constants) ty true (constant_value s ty init))) s)
+-- behind the declarator of a constant, whose name is a constant number or none
+abbrev pub with_constant : Scope → Option Ty → (declarator : Tree) → (number : Option ℕ) → Scope
+with_constant s ty declarator number =
+    record (with_global (named (spelled s (at_of declarator)) (variable (constant_root s.constants) ty true number)) s)
     { constants = suc s.constants }
+
+-- in the initialiser of a constant, where its name is no constant number yet
+abbrev pub in_constant : Scope → Option Ty → (declarator : Tree) → Scope
+in_constant s ty declarator = with_constant s ty declarator None
+
+abbrev pub after_constant : Scope → Option Ty → (declarator init : Tree) → Scope
+after_constant s ty declarator init = with_constant s ty declarator (constant_value (in_constant s ty declarator) ty init)
 
 -- ---- items
 
@@ -204,6 +212,6 @@ after_item s (a_buffer at kind name register space) =
     with_global (named (spelled s name) (a_buffer_name (length s.buffers))) (record s { buffers = s.buffers ++ buffer_info s kind ∷ [] })
 after_item s (a_shared at type declarators) = after_shared (named_type s type) s declarators
 after_item s (a_constant at type declarator init) =
-    with_constant s (declarator_type s (named_type s type) declarator) declarator init
+    after_constant s (declarator_type s (named_type s type) declarator) declarator init
 after_item s (a_function at attributes result name params block) = with_function s result name params
 after_item s _ = s

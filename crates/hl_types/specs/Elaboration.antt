@@ -13,7 +13,7 @@ use Rattle.hl_meaning.specs.Programs.{Constant, FunctionDef, Program, Resource, 
 use Rattle.hl_meaning.specs.Layout.{kinds_of}
 use Rattle.hl_types.specs.Constants.{constant_number, declarator_type, named_type, result_type}
 use Rattle.hl_types.specs.DeclarationRules.{leaves_of, param_semantic, register_number, space_number}
-use Rattle.hl_types.specs.Declarations.{after_item, after_param, after_start, after_statement, at_params, buffer_info, in_body, locals_in, param_copying, with_shared, after_first}
+use Rattle.hl_types.specs.Declarations.{after_item, after_param, after_start, after_statement, at_params, buffer_info, in_body, in_constant, locals_in, param_copying, with_shared, after_first}
 use Rattle.hl_types.specs.Expressions.{with_two, with_three}
 use Rattle.hl_types.specs.Rules.{BreaksNothing}
 use Rattle.hl_types.specs.Scopes.{BufferInfo, Scope, behind, first_scope, looped, opened, spelled, words_if}
@@ -25,9 +25,9 @@ abbrev pub both_lists : {A : Type 0} → Option (List A) → Option (List A) →
 both_lists first rest = with_two (λ a b. Some (a ++ b)) first rest
 
 -- what items declare, one behind the other
-abbrev pub gathered : {A : Type 0} → (Scope → Tree → Option (List A)) → Scope → Trees → Option (List A)
-gathered f s no_trees = Some []
-gathered f s (more_trees first rest) = both_lists (f s first) (gathered f (after_item s first) rest)
+abbrev pub of_items : {A : Type 0} → (Scope → Tree → Option (List A)) → Scope → Trees → Option (List A)
+of_items f s no_trees = Some []
+of_items f s (more_trees first rest) = both_lists (f s first) (of_items f (after_item s first) rest)
 
 -- behind all items
 abbrev pub after_items : Scope → Trees → Scope
@@ -137,7 +137,7 @@ declared_constant s ty declarator init =
     option_and_then (λ own. option_map (λ words. record {
       variable = record { name = spelled s (at_of declarator); ty = own; at = at_of declarator };
       words = words;
-    } ∷ []) (init_words s (kinds_of (struct_defs s.structs) own) init))
+    } ∷ []) (init_words (in_constant s (Some own) declarator) (kinds_of (struct_defs s.structs) own) init))
     (declarator_type s ty declarator)
 
 abbrev pub item_constants : Scope → Tree → Option (List Constant)
@@ -267,11 +267,11 @@ items_program s items =
       functions = functions;
       entry = entry;
       threads = threads;
-    })) (entry_number (after_items s items)) (option_and_then one_of (gathered item_threads s items)))
-    (gathered item_functions s items))
-    (gathered item_constants s items))
-    (gathered item_shared s items))
-    (gathered item_resources s items)
+    })) (entry_number (after_items s items)) (option_and_then one_of (of_items item_threads s items)))
+    (of_items item_functions s items))
+    (of_items item_constants s items))
+    (of_items item_shared s items))
+    (of_items item_resources s items)
 
 -- what a tree becomes
 abbrev pub program_of : List Lexeme → (entry : List ℕ) → Tree → Option Program

@@ -1,7 +1,8 @@
 -- The rules on statements and expressions: 18 to 20 and 22 to 41.
 --
 -- Each says at which tokens it is broken by a part of a program. A rule that needs the type of something that has none
--- isn't broken there.
+-- isn't broken there. Whether something is a place, may be written, or is shared by lanes (25, 31, 37 and 40) needs no
+-- type: the root and the form say it.
 use Rattle.std.specs.Prelude.{ℕ, ◌==◌, ◌&&◌, ◌||◌, not, Bool, true, false, if◌then◌else◌, nat_le, List, [], ◌∷◌, ◌++◌, map, sum, is_some, is_none, codes, Option, None, Some, option_and_then, bytes_eq}
 use Rattle.std.specs.List.{list_any}
 use Rattle.hl_parser.specs.Trees.{Tree, Trees, no_trees, more_trees, an_args, at_of}
@@ -143,17 +144,17 @@ abbrev pub rule_30 : Scope → Part → List ℕ
 rule_30 s (an_index operand index) = broken_if (is_past (constant_number s index) (type_in s operand)) (at_of index)
 rule_30 s _ = []
 
--- a value that isn't a place, or a swizzle of several letters
-abbrev pub is_without_words : Standing → Bool
-is_without_words no_place = true
-is_without_words (a_place writable atomic letters) = is_longer letters
-is_without_words unclear = false
+-- whether only a constant number may be an index of it: it is known to be no place, or is a swizzle of several letters
+abbrev pub needs_constant_index : Standing → Bool
+needs_constant_index no_place = true
+needs_constant_index (a_place writable atomic letters) = is_longer letters
+needs_constant_index unclear = false
 
 -- 31. An index that isn't a constant number stands on a value that isn't a place, or on a swizzle of more than one letter
 -- (this project's own).
 abbrev pub rule_31 : Scope → Part → List ℕ
 rule_31 s (an_index operand index) =
-    broken_if (is_none (buffer_at s operand) && (is_none (constant_number s index) && is_without_words (standing_in s operand))) (at_of index)
+    broken_if (is_none (buffer_at s operand) && (is_none (constant_number s index) && needs_constant_index (standing_in s operand))) (at_of index)
 rule_31 s _ = []
 
 -- ---- operators
@@ -251,7 +252,8 @@ abbrev pub rule_38 : Scope → Part → List ℕ
 rule_38 s (a_call at arguments) = broken_if (is_itself s.inside (chosen_at s at arguments)) at
 rule_38 s _ = []
 
--- 39. A `void` value is used (HLSL, "Void").
+-- 39. A `void` value is used: it is anything but a statement, or the first part or the step of a `for`, parentheses
+-- aside (HLSL, "Void").
 abbrev pub rule_39 : Scope → Part → List ℕ
 rule_39 s (a_use e) = broken_if (gives_nothing s e) (at_of e)
 rule_39 s _ = []

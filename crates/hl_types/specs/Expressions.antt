@@ -171,14 +171,14 @@ assignment_code mark at left right = compound_code (compound_production mark) at
 -- ---- calls
 
 -- an `in` argument is converted to the parameter's type, and any other one is a place
+abbrev pub passed_arg : Copying → Ty → Code → Option Arg
+passed_arg CopyIn ty code = option_map value_arg (converted_code ty code)
+passed_arg _ ty code = option_map place_arg (place_of_code code)
+
 abbrev pub passed_args : List Passed → List Code → Option Args
 passed_args [] [] = Some no_args
 passed_args (p ∷ params) (code ∷ codes) =
-    option_and_then (λ first. option_map (λ rest. more_args first rest) (passed_args params codes)) (argument p.copying)
-  where
-    argument : Copying → Option Arg
-    argument CopyIn = option_map value_arg (converted_code p.ty code)
-    argument _ = option_map place_arg (place_of_code code)
+    option_and_then (λ first. option_map (λ rest. more_args first rest) (passed_args params codes)) (passed_arg p.copying p.ty code)
 passed_args _ _ = None
 
 -- the call of the candidate that is chosen
@@ -193,15 +193,15 @@ interlocked_code at form [] = None
 interlocked_code at form (target ∷ codes) =
     option_and_then (λ o. option_and_then (λ place. interlocked at (place_target place) (place_type place) form o) (place_of_code target)) (operands_of form codes)
 
--- an intrinsic function, whose arguments are converted to what it takes
+-- an interlocked operation, or else another intrinsic function, whose arguments are converted to what it takes
+abbrev pub code_by_form : Option InterlockedForm → (at number : ℕ) → List Code → Option Code
+code_by_form (Some form) at number codes = interlocked_code at form codes
+code_by_form None at number codes =
+    option_and_then (λ p. option_and_then (λ args. a_value p.gives at (intrinsic_form number args)) (converted_each p.takes codes))
+    (option_and_then (λ signature. passed signature (map type_of_code codes)) (signature_of number))
+
 abbrev pub intrinsic_code : (at number : ℕ) → List Code → Option Code
-intrinsic_code at number codes = by_form (interlocked_form number)
-  where
-    by_form : Option InterlockedForm → Option Code
-    by_form (Some form) = interlocked_code at form codes
-    by_form None =
-        option_and_then (λ p. option_and_then (λ args. a_value p.gives at (intrinsic_form number args)) (converted_each p.takes codes))
-        (option_and_then (λ signature. passed signature (map type_of_code codes)) (signature_of number))
+intrinsic_code at number codes = code_by_form (interlocked_form number) at number codes
 
 abbrev pub call_code : Scope → (at : ℕ) → Option Sort → Option Candidate → List Code → Option Code
 call_code s at (Some a_function_name) candidate codes = option_and_then (λ c. function_code s at c codes) candidate

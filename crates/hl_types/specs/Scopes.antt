@@ -61,7 +61,8 @@ named name sort = record { name = name; sort = sort }
 -- What is known at a place: the tokens of the source and the name of the entry; the structs, buffers and functions
 -- that are declared so far, by their numbers, and how many groupshared variables and constants; the global names; the
 -- names of the blocks around, the innermost first; the number of the function's next variable; whether a loop stands
--- around; the number of the function whose body stands around; and what that function gives.
+-- around; the number of the function whose body stands around; and what that function gives. Only elaboration reads how
+-- many variables, groupshared variables and constants there are.
 pub record Scope : Type 0 where
   pub tokens : List Lexeme
   pub entry : List ℕ

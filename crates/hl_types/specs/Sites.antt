@@ -6,7 +6,7 @@ use Rattle.hl_lexer.specs.Tokens.{Lexeme}
 use Rattle.hl_parser.specs.Trees.{Tree, Trees, Maybe, absent, present, no_trees, more_trees, a_binary, a_block, a_buffer, a_choice, a_constant, a_declarator, a_do, a_for, a_function, a_jump, a_kind, a_local, a_member, a_param, a_postfix, a_primary, a_program, a_result, a_shared, a_start, a_stmt, a_struct, a_type, a_unary, a_while, an_args, an_attribute, an_expr, an_if, an_init, an_item, at_of}
 use Rattle.hl_meaning.specs.Types.{Ty}
 use Rattle.hl_types.specs.Constants.{declarator_type, named_type}
-use Rattle.hl_types.specs.Declarations.{after_first, after_item, after_param, after_start, after_statement, at_params, buffer_info, in_body, locals_in, member_info, struct_info, with_shared}
+use Rattle.hl_types.specs.Declarations.{after_first, after_item, after_param, after_start, after_statement, at_params, buffer_info, in_body, in_constant, locals_in, member_info, struct_info, with_shared}
 use Rattle.hl_types.specs.Operands.{of_two, operator_type}
 use Rattle.hl_types.specs.Parts.{Site, a_brace_init, a_call, a_cast, a_condition, a_constant_init, a_constructor, a_conversion, a_declared, a_dot, a_function_attribute, a_global_name, a_length, a_local_name, a_loop_jump, a_member_name, a_method_call, a_register, a_return, a_space, a_statement_attribute, a_type_name, a_use, a_variable, a_whole_function, a_whole_struct, a_written_side, an_element, an_end, an_entry_param, an_index, an_operand, site}
 use Rattle.hl_types.specs.Scopes.{MemberInfo, Scope, behind, first_scope, is_function, looped, opened, spelled}
@@ -15,7 +15,8 @@ use Rattle.hl_types.specs.Values.{buffer_at, type_in}
 
 -- ---- expressions
 
--- a value that is used, with the places inside it
+-- a value that is used, with the places inside it: every expression but a statement, the first part and the step of a
+-- `for`, and what these hold in parentheses
 abbrev pub used : Scope → Tree → List Site → List Site
 used s e inside = site s (a_use e) ∷ inside
 
@@ -24,8 +25,8 @@ abbrev pub operated : Scope → Tree → List Site → List Site
 operated s e inside = site s (an_operand e) ∷ used s e inside
 
 -- what stands before `.` with arguments or an index, with the places inside it: the name of a buffer stands there by itself
-abbrev pub indexed : Scope → Tree → List Site → List Site
-indexed s e inside = if is_some (buffer_at s e) then [] else used s e inside
+abbrev pub buffer_or_used : Scope → Tree → List Site → List Site
+buffer_or_used s e inside = if is_some (buffer_at s e) then [] else used s e inside
 
 -- a token alone
 abbrev pub word_sites : Scope → Terminal → ℕ → List Site
@@ -74,9 +75,9 @@ abbrev mutual
   expression_sites s (a_postfix at operand mark (Some name) absent) =
       site s (a_dot operand name) ∷ used s operand (expression_sites s operand)
   expression_sites s (a_postfix at operand mark (Some name) (present arguments)) =
-      site s (a_method_call operand name arguments) ∷ (indexed s operand (expression_sites s operand) ++ argument_sites s arguments)
+      site s (a_method_call operand name arguments) ∷ (buffer_or_used s operand (expression_sites s operand) ++ argument_sites s arguments)
   expression_sites s (a_postfix at operand mark None (present index)) =
-      site s (an_index operand index) ∷ (indexed s operand (expression_sites s operand) ++ used s index (expression_sites s index))
+      site s (an_index operand index) ∷ (buffer_or_used s operand (expression_sites s operand) ++ used s index (expression_sites s index))
   expression_sites s (a_postfix at operand mark None absent) =
       site s (a_written_side operand) ∷ operated s operand (expression_sites s operand)
   expression_sites s (a_unary at (present basic) operand) =
@@ -302,6 +303,11 @@ shared_sites ty s no_trees = []
 shared_sites ty s (more_trees first rest) =
     site s (a_global_name (at_of first)) ∷ (declarator_sites s ty first ++ shared_sites ty (with_shared ty s first) rest)
 
+-- the initialiser of a constant of a type
+abbrev pub constant_sites : Scope → Option Ty → (declarator init : Tree) → List Site
+constant_sites s ty declarator init =
+    site (in_constant s ty declarator) (a_constant_init init) ∷ init_sites (in_constant s ty declarator) ty init
+
 abbrev pub item_sites : Scope → Tree → List Site
 item_sites s (an_item at item) = item_sites s item
 item_sites s (a_struct at name members) =
@@ -311,8 +317,9 @@ item_sites s (a_buffer at kind name register space) =
 item_sites s (a_shared at type declarators) = type_sites s type ++ shared_sites (named_type s type) s declarators
 item_sites s (a_constant at type declarator init) =
     type_sites s type
-    ++ (site s (a_global_name (at_of declarator)) ∷ site s (a_constant_init init)
-    ∷ (declarator_sites s (named_type s type) declarator ++ init_sites s (declarator_type s (named_type s type) declarator) init))
+    ++ (site s (a_global_name (at_of declarator))
+    ∷ (declarator_sites s (named_type s type) declarator
+    ++ constant_sites s (declarator_type s (named_type s type) declarator) declarator init))
 item_sites s (a_function at attributes result name params block) =
     function_attributes_sites s false attributes
     ++ (result_sites s result

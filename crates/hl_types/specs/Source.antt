@@ -1,5 +1,5 @@
 -- The tokens of a source, each by its index.
-use Rattle.std.specs.Prelude.{ℕ, Bool, false, List, [], Option, None, Some, slice_get}
+use Rattle.std.specs.Prelude.{ℕ, Bool, false, List, [], option_map, slice_get, unwrap_or}
 use Rattle.hl_lexer.specs.declared.terminal.Terminal.{Terminal}
 use Rattle.hl_lexer.specs.declared.terminal.Terminal.TheVariants as terminals
 use Rattle.hl_lexer.specs.declared.token.TokenKind.{TokenKind}
@@ -28,40 +28,20 @@ mark_of (kinds.Mark number) = number
 
 -- the bytes of the token of an index
 abbrev pub text_at : List Lexeme → ℕ → List ℕ
-text_at tokens index = text_if (slice_get tokens index)
-  where
-    text_if : Option Lexeme → List ℕ
-    text_if None = []
-    text_if (Some token) = token.text
+text_at tokens index = unwrap_or (option_map (λ token. token.text) (slice_get tokens index)) []
 
 -- what it is for the grammar
 abbrev pub terminal_at : List Lexeme → ℕ → Terminal
-terminal_at tokens index = terminal_if (slice_get tokens index)
-  where
-    terminal_if : Option Lexeme → Terminal
-    terminal_if None = terminals.Unlisted
-    terminal_if (Some token) = terminal_of token.kind
+terminal_at tokens index = unwrap_or (option_map (λ token. terminal_of token.kind) (slice_get tokens index)) terminals.Unlisted
 
 -- its number
 abbrev pub number_at : List Lexeme → ℕ → ℕ
-number_at tokens index = number_if (slice_get tokens index)
-  where
-    number_if : Option Lexeme → ℕ
-    number_if None = 0
-    number_if (Some token) = number_of token.kind
+number_at tokens index = unwrap_or (option_map (λ token. number_of token.kind) (slice_get tokens index)) 0
 
 -- whether it is a number without a sign by its suffix
 abbrev pub is_unsigned_at : List Lexeme → ℕ → Bool
-is_unsigned_at tokens index = unsigned_if (slice_get tokens index)
-  where
-    unsigned_if : Option Lexeme → Bool
-    unsigned_if None = false
-    unsigned_if (Some token) = is_unsigned token.kind
+is_unsigned_at tokens index = unwrap_or (option_map (λ token. is_unsigned token.kind) (slice_get tokens index)) false
 
 -- the number of the mark
 abbrev pub mark_at : List Lexeme → ℕ → ℕ
-mark_at tokens index = mark_if (slice_get tokens index)
-  where
-    mark_if : Option Lexeme → ℕ
-    mark_if None = 0
-    mark_if (Some token) = mark_of token.kind
+mark_at tokens index = unwrap_or (option_map (λ token. mark_of token.kind) (slice_get tokens index)) 0

@@ -6,7 +6,8 @@ use Rattle.hl_lexer.specs.declared.terminal.Terminal.TheVariants as terminals
 use Rattle.hl_parser.specs.Trees.{Tree, Trees, absent, present, no_trees, more_trees, a_binary, a_choice, a_postfix, a_primary, a_unary, an_args, an_expr}
 use Rattle.hl_meaning.specs.declared.ty.Kind.{Kind}
 use Rattle.hl_meaning.specs.declared.ty.Kind.TheVariants.{Int as IntKind, Uint as UintKind}
-use Rattle.hl_meaning.specs.Types.{Ty, array_type, bool_type, components_type, is_basic, is_numeric, is_scalar, is_void, scalar_type, struct_type, ty_eq, vector_type, void_type}
+use Rattle.hl_meaning.specs.Types.{Ty, array_type, bool_type, components_type, is_basic, is_numeric, is_scalar, is_void, scalar_type, struct_type, ty_eq, uint_type, vector_type, void_type}
+use Rattle.hl_meaning.specs.Conversions.{converts}
 use Rattle.hl_meaning.specs.Trees.{Root, shared_root}
 use Rattle.hl_meaning.specs.Intrinsics.{signature_of}
 use Rattle.hl_meaning.specs.Places.{is_without_repeats}
@@ -17,10 +18,10 @@ use Rattle.hl_types.specs.Overloads.{Choice, Passed, choice_of, is_chosen}
 use Rattle.hl_types.specs.Scopes.{BufferInfo, FunctionInfo, MemberInfo, ParamInfo, Scope, Sort, StructInfo, a_buffer_name, a_function_name, a_variable_name, sort_at, spelled}
 use Rattle.hl_types.specs.Source.{is_unsigned_at, number_at, terminal_at}
 
--- Whether an expression is a place. It isn't known of a name that isn't declared, and of what stands on it. A place is
--- known by its root: whether what it holds may be written, and whether it is groupshared or in a writable structured
--- buffer. A swizzle at its end has letters, the numbers of components; a swizzle or a constant number as an index
--- behind a swizzle of several letters picks among these.
+-- Whether an expression is a place. It isn't known of some names, and of what stands on them. A place is known by its
+-- root: whether what it holds may be written, and whether it is groupshared or in a writable structured buffer. A swizzle
+-- at its end has letters, the numbers of components; a swizzle or a constant number as an index behind a swizzle of
+-- several letters picks among these.
 pub data Standing : Type 0 where
   unclear : Standing
   no_place : Standing
@@ -55,8 +56,11 @@ abbrev pub is_shared_root : Root → Bool
 is_shared_root (shared_root number) = true
 is_shared_root _ = false
 
+-- What a name is in an expression. Of a name that isn't declared, and of the name of a buffer that doesn't stand directly
+-- before an index or a method, it isn't known whether it is a place; the name of a struct or a function is none.
 abbrev pub sort_value : Option Sort → Value
 sort_value None = value None unclear
+sort_value (Some (a_buffer_name number)) = value None unclear
 sort_value (Some (a_variable_name v)) = value v.ty (a_place (not v.is_const) (is_shared_root v.root) [])
 sort_value (Some _) = plain_value None
 
@@ -236,13 +240,13 @@ abbrev pub call_choice : Scope → List ℕ → List Value → Option Choice
 call_choice s name args =
     option_and_then (λ types. option_map (λ found. choice_of (map (λ c. c.params) found) types) (candidates s name)) (argument_types args)
 
+abbrev pub chosen_candidate : Scope → List ℕ → Choice → Option Candidate
+chosen_candidate s name (is_chosen place) = option_and_then (λ found. slice_get found place) (candidates s name)
+chosen_candidate s name _ = None
+
 -- the candidate that is called, where one is
 abbrev pub called : Scope → List ℕ → List Value → Option Candidate
-called s name args = option_and_then chosen (call_choice s name args)
-  where
-    chosen : Choice → Option Candidate
-    chosen (is_chosen place) = option_and_then (λ found. slice_get found place) (candidates s name)
-    chosen _ = None
+called s name args = option_and_then (chosen_candidate s name) (call_choice s name args)
 
 abbrev pub function_result : Scope → ℕ → Option Ty
 function_result s number = option_and_then (λ f. f.result) (slice_get s.functions number)
@@ -257,6 +261,14 @@ is_basic_value v = is_basic_if v.ty
     is_basic_if : Option Ty → Bool
     is_basic_if None = false
     is_basic_if (Some ty) = is_basic ty
+
+-- whether a value has a type that converts to another one
+abbrev pub converts_to : Ty → Value → Bool
+converts_to ty v = converts_if v.ty
+  where
+    converts_if : Option Ty → Bool
+    converts_if None = false
+    converts_if (Some from) = converts from ty
 
 abbrev pub holds_if : {A : Type 0} → (A → Bool) → Option A → Bool
 holds_if test None = true
@@ -274,26 +286,25 @@ is_written_place test v = may_be_written v.standing && is_of_type v.ty
 abbrev pub operands_fit : (Ty → Bool) → Operands Value → Bool
 operands_fit original o = is_basic_value o.value && (holds_if is_basic_value o.compare && holds_if (is_written_place original) o.original)
 
--- An interlocked operation's operands are judged by the type of its target, where that is an int or a uint.
-abbrev pub target_fits : Option Ty → Operands Value → Bool
-target_fits None o = true
-target_fits (Some ty) o = if is_word ty then operands_fit (ty_eq ty) o else true
+-- Whether the operands of an interlocked function fit, where their number is right. They are judged by the type of its
+-- target, where that is an int or a uint.
+abbrev pub target_operands_fit : (target : Option Ty) → Option (Operands Value) → Bool
+target_operands_fit target None = false
+target_operands_fit None (Some o) = true
+target_operands_fit (Some ty) (Some o) = if is_word ty then operands_fit (ty_eq ty) o else true
 
 abbrev pub atomic_fits : InterlockedForm → List Value → Bool
 atomic_fits form [] = false
-atomic_fits form (target ∷ values) = fits (operands_of form values)
-  where
-    fits : Option (Operands Value) → Bool
-    fits None = false
-    fits (Some o) = target_fits target.ty o
+atomic_fits form (target ∷ values) = target_operands_fit target.ty (operands_of form values)
+
+-- what an interlocked operation gives, or else another intrinsic function
+abbrev pub result_by_form : Option InterlockedForm → (number : ℕ) → List Value → List Ty → Option Ty
+result_by_form (Some form) number args types = if atomic_fits form args then Some void_type else None
+result_by_form None number args types = option_map (λ p. p.gives) (option_and_then (λ signature. passed signature types) (signature_of number))
 
 -- what a call of an intrinsic function gives, where its arguments fit; they all have types
 abbrev pub intrinsic_result : ℕ → List Value → List Ty → Option Ty
-intrinsic_result number args types = atomic_or (interlocked_form number)
-  where
-    atomic_or : Option InterlockedForm → Option Ty
-    atomic_or (Some form) = if atomic_fits form args then Some void_type else None
-    atomic_or None = option_map (λ p. p.gives) (option_and_then (λ signature. passed signature types) (signature_of number))
+intrinsic_result number args types = result_by_form (interlocked_form number) number args types
 
 abbrev pub intrinsic_type : ℕ → List Value → Option Ty
 intrinsic_type number args = option_and_then (intrinsic_result number args) (argument_types args)
@@ -304,16 +315,20 @@ call_type s name (Some a_function_name) args = option_and_then (λ c. function_r
 call_type s name (Some _) args = None
 call_type s name None args = option_and_then (λ number. intrinsic_type number args) (intrinsic_named name)
 
--- whether the arguments of a method fit; they all have types
+-- whether the operands of an interlocked method fit, where their number is right
+abbrev pub atomic_operands_fit : Option (Operands Value) → Bool
+atomic_operands_fit None = false
+atomic_operands_fit (Some o) = operands_fit is_word o
+
+-- Whether the arguments of a method fit; they all have types. An address and an index convert to uint, and what is
+-- stored to as many words as are stored.
 abbrev pub method_fits : Method → List Value → Bool
-method_fits (loads_words count) (address ∷ []) = is_basic_value address
-method_fits (stores_words count) (address ∷ v ∷ []) = is_basic_value address && is_basic_value v
-method_fits loads_element (index ∷ []) = is_basic_value index
-method_fits (does_atomic form) (address ∷ values) = is_basic_value address && fits (operands_of form values)
-  where
-    fits : Option (Operands Value) → Bool
-    fits None = false
-    fits (Some o) = operands_fit is_word o
+method_fits (loads_words count) (address ∷ []) = converts_to uint_type address
+method_fits (stores_words count) (address ∷ v ∷ []) =
+    converts_to uint_type address && converts_to (components_type UintKind count) v
+method_fits loads_element (index ∷ []) = converts_to uint_type index
+method_fits (does_atomic form) (address ∷ values) =
+    converts_to uint_type address && atomic_operands_fit (operands_of form values)
 method_fits _ _ = false
 
 -- what a method gives
@@ -331,7 +346,9 @@ method_type buffer name args =
 -- ---- expressions
 
 abbrev mutual
-  -- what is known of an expression
+  -- What is known of an expression. These have no type: a name that isn't declared as a variable, a member that isn't
+  -- there, a bad swizzle, an index of what has no elements, an operator on what is no scalar or vector, a call that doesn't
+  -- fit or is ambiguous, and what takes its type from a part that has none. Whatever else is broken, a type stays.
   pub value_of : Scope → Tree → Value
   value_of s (a_primary at absent absent) = word_value s (terminal_at s.tokens at) at
   value_of s (a_primary at absent (present arguments)) =

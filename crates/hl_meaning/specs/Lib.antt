@@ -1,0 +1,15 @@
+pub mod Types
+pub mod Conversions
+pub mod Operators
+pub mod Intrinsics
+pub mod Trees
+pub mod Programs
+pub mod Views
+pub mod Layout
+pub mod Places
+pub mod WellFormed
+pub mod Stopping
+pub mod Sums
+pub mod Sizes
+pub mod Held
+pub mod Counters

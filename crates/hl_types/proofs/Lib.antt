@@ -1,0 +1,7 @@
+mod FirstLemmas
+pub mod Gathering
+pub mod Free
+pub mod TypeLemmas
+pub mod Becoming
+pub mod OperatorForms
+pub mod PlaceForms

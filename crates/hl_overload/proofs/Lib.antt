@@ -1,1 +1,4 @@
 pub mod CostLemmas
+pub mod FitLemmas
+pub mod BestLemmas
+pub mod Turns

@@ -70,7 +70,7 @@ fn vector_cost(from: Kind, size: u8, to: &HlType) -> Option<u8>
 }
 
 /// The cost of an array's or a struct's conversion, which is to the same type alone.
-fn same_cost(from: &HlType, to: &HlType) -> Option<u8>
+pub(crate) fn same_cost(from: &HlType, to: &HlType) -> Option<u8>
     ensures { result ≡ (if ty_eq (plain_ty from.now) (plain_ty to.now) then Some 0 else None) }
 {
     from.is_same(to).then_some(0)

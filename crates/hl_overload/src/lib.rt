@@ -1,8 +1,13 @@
 //! Which of several functions a call means.
 #![tactic(auto)]
 
+mod best;
 mod choice;
+mod choosing;
 mod conversion;
+#[cfg(test)]
+mod tests;
 
 pub use choice::{Candidate, ChoiceFault, Param, Params};
+pub use choosing::choose;
 pub use conversion::cost;

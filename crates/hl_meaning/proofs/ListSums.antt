@@ -1,6 +1,6 @@
 -- What the parts of a list hold together, over what is held.
-use Rattle.std.proofs.Common.{◌≡◌, ◌∙◌, refl, sym, ap, ℕ, ◌+◌, ◌<◌, ◌⊎◌, inl, inr, List, [], ◌∷◌, ◌++◌, map, take, length, get_or, arith}
-use Rattle.std.proofs.lemmas.List.{take_more, take_all}
+use Rattle.std.proofs.Common.{◌≡◌, ◌∙◌, refl, sym, ap, ℕ, ◌+◌, ◌<◌, ◌⊎◌, inl, inr, List, [], ◌∷◌, ◌++◌, take, length, get_or}
+use Rattle.std.proofs.lemmas.List.{take_more}
 use Rattle.hl_meaning.specs.declared.expression.Arg.{Arg}
 use Rattle.hl_meaning.specs.declared.expression.Expr.{Expr}
 use Rattle.hl_meaning.specs.declared.expression.PathPart.{PathPart}

@@ -1,5 +1,5 @@
 -- What the functions of a program hold, one after another.
-use Rattle.std.proofs.Common.{◌≡◌, ◌∙◌, refl, sym, ap, ℕ, ◌+◌, ◌<◌, List, [], ◌∷◌, ◌++◌, map, take, length, get_or, slice_get, unwrap_or, arith}
+use Rattle.std.proofs.Common.{◌≡◌, ◌∙◌, sym, ap, ℕ, ◌+◌, ◌<◌, List, [], ◌∷◌, ◌++◌, map, take, length, get_or, slice_get, unwrap_or}
 use Rattle.std.proofs.lemmas.List.{map_push, take_more}
 use Rattle.hl_meaning.specs.declared.program.FunctionDef.{FunctionDef}
 use Rattle.hl_meaning.specs.declared.sums.Sums.{Sums}

@@ -1,8 +1,8 @@
 -- Sums that stop on the way are those that stop at the end.
-use Rattle.std.proofs.Common.{◌≡◌, ◌∙◌, refl, sym, ap, ℕ, suc, ◌+◌, ◌<◌, ◌≤◌, min, max, List, [], ◌∷◌, ◌++◌, map, arith}
+use Rattle.std.proofs.Common.{◌≡◌, ◌∙◌, refl, sym, ap, ℕ, suc, ◌+◌, max, List, [], ◌∷◌, ◌++◌, arith}
 use Rattle.hl_meaning.specs.declared.sums.Sums.{Sums}
 use Rattle.hl_meaning.specs.Stopping.{stopped}
-use Rattle.hl_meaning.specs.Sums.{both, node, nothing, step, branch, memory, statement, stop_all}
+use Rattle.hl_meaning.specs.Sums.{both, node, nothing, step, branch, memory, stop_all}
 
 pub make : ℕ → ℕ → ℕ → ℕ → Sums
 make size branches depth private_words = record { size = size; branches = branches; depth = depth; private_words = private_words }

@@ -1,5 +1,5 @@
 -- When types that are held are the same.
-use Rattle.std.proofs.Common.{◌≡◌, ◌∙◌, refl, sym, subst, ap, ℕ, Bool, true, false, ◌==◌, ◌&&◌, nat_eq}
+use Rattle.std.proofs.Common.{◌≡◌, ◌∙◌, refl, sym, subst, ap, ℕ, false}
 use Rattle.hl_meaning.specs.declared.ty.Kind.{Kind}
 use Rattle.hl_meaning.specs.declared.ty.HlType.{HlType, HlType-F, out-HlType, roll-HlType, roll-out-HlType}
 use Rattle.hl_meaning.specs.declared.ty.HlType.TheVariants.{Void, Scalar, Vector, Array, Struct, rolls-Void, rolls-Scalar, rolls-Vector, rolls-Array, rolls-Struct}

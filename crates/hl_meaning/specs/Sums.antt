@@ -1,6 +1,6 @@
 -- How much a program holds, with all calls replaced by what they call. The sums and what counts in them are this
 -- project's own.
-use Rattle.std.specs.Prelude.{ℕ, suc, ◌+◌, ◌*◌, max, min, List, [], ◌∷◌, ◌++◌, sum_by, Option, Some, None, slice_get, unwrap_or}
+use Rattle.std.specs.Prelude.{ℕ, suc, ◌+◌, max, List, [], ◌∷◌, ◌++◌, sum_by, Option, Some, None, slice_get, unwrap_or}
 use Rattle.hl_meaning.specs.declared.sums.Sums.{Sums}
 use Rattle.hl_meaning.specs.Stopping.{stopped}
 use Rattle.hl_meaning.specs.Trees.{Arg, Args, Expr, Exprs, Form, Location, MaybeExpr, MaybeLocation, MaybeStmt, PathPart, PathParts, Root, Stmt, Stmts, Target, a_location, an_expr, atomic_form, binary_form, block_stmt, break_stmt, build_form, bytes_target, call_form, choose_form, continue_stmt, convert_form, do_stmt, element_root, for_stmt, if_stmt, index_part, intrinsic_form, literal_form, local_stmt, method_form, more_args, more_exprs, more_parts, more_stmts, no_args, no_expr, no_exprs, no_location, no_parts, no_stmt, no_stmts, pick_form, place_arg, place_target, read_form, return_stmt, run_stmt, some_expr, some_location, some_stmt, unary_form, value_arg, while_stmt, write_form}

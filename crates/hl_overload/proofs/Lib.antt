@@ -2,3 +2,4 @@ pub mod CostLemmas
 pub mod FitLemmas
 pub mod BestLemmas
 pub mod Turns
+pub mod OneChoice

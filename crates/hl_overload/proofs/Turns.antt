@@ -1,5 +1,5 @@
 -- One turn of the loop over the candidates, and its end.
-use Rattle.std.proofs.Common.{◌≡◌, ◌∙◌, refl, sym, ap, subst, ℕ, ◌+◌, ◌<◌, ◌≤◌, List, [], ◌∷◌, ◌++◌, map, take, length, get_or, Option, arith}
+use Rattle.std.proofs.Common.{◌≡◌, ◌∙◌, sym, ap, subst, ℕ, ◌+◌, ◌<◌, ◌≤◌, List, [], ◌∷◌, ◌++◌, map, take, length, get_or, Option, arith}
 use Rattle.std.proofs.lemmas.List.{length-map, length-take-le, map_push, take-map, take_all, take_more}
 use Rattle.hl_meaning.specs.Types.{Ty}
 use Rattle.hl_overload.specs.declared.best.Best.{Best}

@@ -1,3 +1,4 @@
 pub mod Choice
 pub mod Views
 pub mod Best
+pub mod Laws

@@ -5,6 +5,7 @@ mod best;
 mod choice;
 mod choosing;
 mod conversion;
+pub mod laws;
 #[cfg(test)]
 mod tests;
 

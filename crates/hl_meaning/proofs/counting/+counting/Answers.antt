@@ -1,12 +1,12 @@
-use Rattle.std.proofs.Common.{◌≡◌, max, ◌∙◌, ◌<◌, refl, sym, ap, length, take, arith, rules}
+use Rattle.std.proofs.Common.{◌≡◌, max, ◌∙◌, ◌<◌, refl, sym, ap, length, arith, rules}
 use Rattle.std.proofs.lemmas.List.{take_all}
-use Rattle.hl_meaning.specs.Sums.{arg_sums, args_sums, callee_sums, expr_if_sums, expr_sums, exprs_sums, form_sums, indexes_sums, location_if_sums, location_sums, nothing, part_sums, parts_sums, root_sums, step, stop_all, target_sums, both, node}
+use Rattle.hl_meaning.specs.Sums.{arg_sums, args_sums, callee_sums, expr_if_sums, expr_sums, form_sums, indexes_sums, location_if_sums, location_sums, part_sums, parts_sums, root_sums, step, stop_all, target_sums, both, node}
 use Rattle.hl_meaning.specs.Layout.{words_of}
 use Rattle.hl_meaning.specs.Stopping.{stopped}
-use Rattle.hl_meaning.specs.Views.{plain_arg, plain_args, plain_expr, plain_exprs, plain_form, plain_location, plain_maybe_expr, plain_maybe_location, plain_part, plain_parts, plain_root, plain_structs, plain_target, plain_ty}
+use Rattle.hl_meaning.specs.Views.{plain_arg, plain_args, plain_expr, plain_form, plain_location, plain_maybe_expr, plain_maybe_location, plain_part, plain_parts, plain_root, plain_structs, plain_target, plain_ty}
 use Rattle.hl_meaning.specs.Counters.{counted_by}
 use Rattle.hl_meaning.proofs.Plain.{plain_arg-Place, plain_arg-Value, plain_expr-is, plain_form-Atomic, plain_form-Binary, plain_form-Build, plain_form-Call, plain_form-Choose, plain_form-Convert, plain_form-Intrinsic, plain_form-Literal, plain_form-Method, plain_form-Pick, plain_form-Read, plain_form-Unary, plain_form-Write, plain_location-is, plain_part-Index, plain_root-Element, plain_target-Bytes, plain_target-Place}
-use Rattle.hl_meaning.proofs.SumLemmas.{all_sums, stop_all-both_left, both_of, stop_all-node, stop_all-step, stopped-max_one}
+use Rattle.hl_meaning.proofs.SumLemmas.{all_sums, stop_all-both_left, both_of, stop_all-node, stop_all-step}
 use Rattle.hl_meaning.proofs.ListSums.{all_sums-more, args_sums-all, exprs_sums-all, indexes_sums-all, part_sums-nothing, parts_sums-all, root_sums-nothing}
 use Rattle.hl_meaning.proofs.counting.+counting.Goals as goal
 

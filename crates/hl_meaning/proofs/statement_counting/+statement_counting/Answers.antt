@@ -1,6 +1,6 @@
-use Rattle.std.proofs.Common.{◌≡◌, ◌∙◌, ◌<◌, refl, sym, ap, length, option_map, arith, rules}
+use Rattle.std.proofs.Common.{◌∙◌, ◌<◌, refl, sym, ap, length, option_map, arith, rules}
 use Rattle.std.proofs.lemmas.List.{take_all}
-use Rattle.hl_meaning.specs.Sums.{both, branch, expr_option_sums, expr_sums, node, nothing, stmt_if_sums, stmt_sums, stmts_sums, stop_all}
+use Rattle.hl_meaning.specs.Sums.{both, expr_option_sums, expr_sums, stmt_if_sums, stmt_sums, stmts_sums, stop_all}
 use Rattle.hl_meaning.specs.Views.{plain_expr, plain_maybe_stmt, plain_stmt, plain_stmts}
 use Rattle.hl_meaning.specs.Counters.{counted_by}
 use Rattle.hl_meaning.proofs.Plain.{plain_stmt-Block, plain_stmt-Break, plain_stmt-Continue, plain_stmt-Do, plain_stmt-For, plain_stmt-If, plain_stmt-Local, plain_stmt-Return, plain_stmt-Run, plain_stmt-While}

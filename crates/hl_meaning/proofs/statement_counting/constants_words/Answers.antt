@@ -1,4 +1,4 @@
-use Rattle.std.proofs.Common.{◌≡◌, ◌∙◌, ◌<◌, refl, sym, ap, length, sum_by, arith, rules}
+use Rattle.std.proofs.Common.{◌∙◌, ◌<◌, refl, sym, ap, length, sum_by, arith, rules}
 use Rattle.std.proofs.lemmas.List.{take_all}
 use Rattle.hl_meaning.specs.Layout.{words_of}
 use Rattle.hl_meaning.specs.Stopping.{stopped}

@@ -1,4 +1,4 @@
-use Rattle.std.proofs.Common.{◌≡◌, ◌∙◌, ◌<◌, [], sym, ap, map, length, arith}
+use Rattle.std.proofs.Common.{◌∙◌, [], ap, map, arith}
 use Rattle.std.proofs.lemmas.List.{take_all}
 use Rattle.hl_meaning.specs.Held.{plain_program}
 use Rattle.hl_meaning.specs.Sums.{function_sums, functions_sums, stop_all}

@@ -1,4 +1,4 @@
-use Rattle.std.proofs.Common.{◌∙◌, ap, [], map, slice_get, unwrap_or}
+use Rattle.std.proofs.Common.{◌∙◌, ap, [], slice_get, unwrap_or}
 use Rattle.hl_meaning.specs.Held.{plain_program}
 use Rattle.hl_meaning.specs.Sums.{constant_words, functions_sums, nothing}
 use Rattle.hl_meaning.proofs.LayoutLemmas.{has_words}

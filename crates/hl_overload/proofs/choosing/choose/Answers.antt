@@ -1,4 +1,4 @@
-use Rattle.std.proofs.Common.{◌<◌, ◌≤◌, length, sym, subst, Some, arith, rules}
+use Rattle.std.proofs.Common.{◌<◌, ◌≤◌, length, sym, subst, Some, rules}
 use Rattle.std.proofs.lemmas.Option.{none-some}
 use Rattle.hl_overload.specs.Choice.{Chooses, sums_of}
 use Rattle.hl_overload.specs.Views.{plain_candidates, plain_types}

@@ -1,4 +1,4 @@
-use Rattle.std.proofs.Common.{◌≡◌, ◌≢◌, ◌∙◌, sym, ap, map, length, None}
+use Rattle.std.proofs.Common.{◌≢◌, ◌∙◌, sym, length}
 use Rattle.std.proofs.lemmas.List.{length-map}
 use Rattle.hl_meaning.specs.Views.{plain_ty}
 use Rattle.hl_overload.specs.Views.{plain_param, plain_params, plain_types}

@@ -1,4 +1,4 @@
-use Rattle.std.proofs.Common.{◌≡◌, ◌∙◌, sym, ap, None, Some, if◌then◌else◌}
+use Rattle.std.proofs.Common.{◌∙◌, sym, ap, None, Some, if◌then◌else◌}
 use Rattle.hl_meaning.specs.Conversions.{conversion_cost}
 use Rattle.hl_meaning.specs.Types.{ty_eq}
 use Rattle.hl_meaning.specs.Views.{plain_ty}

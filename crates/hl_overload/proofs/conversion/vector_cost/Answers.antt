@@ -1,4 +1,4 @@
-use Rattle.std.proofs.Common.{◌≡◌, ◌∙◌, ◌+◌, sym, ap, None, Some}
+use Rattle.std.proofs.Common.{◌∙◌, ◌+◌, sym, ap, Some}
 use Rattle.hl_meaning.specs.Conversions.{conversion_cost}
 use Rattle.hl_meaning.specs.Types.{vector_type}
 use Rattle.hl_meaning.specs.Views.{plain_ty}

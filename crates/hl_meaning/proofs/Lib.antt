@@ -7,3 +7,4 @@ pub mod KnownSums
 pub mod WordSums
 pub mod ProgramSums
 pub mod TypeLemmas
+pub mod EmptyProgram

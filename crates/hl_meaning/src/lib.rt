@@ -10,6 +10,8 @@ mod size;
 mod statement;
 mod statement_counting;
 mod sums;
+#[cfg(test)]
+mod tests;
 mod totals;
 mod ty;
 

@@ -1,0 +1,5 @@
+pub mod CostLemmas
+pub mod FitLemmas
+pub mod BestLemmas
+pub mod Turns
+pub mod OneChoice

@@ -1,0 +1,4 @@
+pub mod Choice
+pub mod Views
+pub mod Best
+pub mod Laws

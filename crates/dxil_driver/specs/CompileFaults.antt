@@ -1,6 +1,7 @@
 -- Why a text isn't compiled.
 --
--- A text is looked at in this order: its length, its tokens, their syntax, the depth of their tree, and its form.
+-- A text is looked at in this order: its length, its tokens, their syntax, the depth of their tree, and its form. So it
+-- has at most one of these faults, and none where it is compiled.
 use Rattle.std.specs.Prelude.{◌≡◌, ℕ, ◌<◌, ◌≤◌, List, length}
 use Rattle.std.specs.declared.result.Result.{Result}
 use Rattle.std.specs.declared.result.Result.TheVariants.{Ok, Err}

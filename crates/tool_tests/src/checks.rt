@@ -1,21 +1,10 @@
 //! What `check` prints for the container of a kernel, and for parts of it.
 
-ghost use Rattle.std.specs.Prelude.{IfOk};
-ghost use Rattle.ir_core.specs.Soundness.{IsSound};
-
 use crate::containers::options;
-use base_core::{Bytes, Calls, MemorySink, PlainSource, Text};
-use bc_records::from_blocks;
-use bc_stream::read_blocks;
-use dx_container::unpack;
-use dx_validate::{Invalid, validate};
+use base_core::{Bytes, Calls, MemorySink, PlainSource};
 use dxil_driver::{Status, compile, tool};
-use ir_core::{Module, Spot};
 use std::process::Abort;
 use std::test::Fail;
-
-/// No bitcode of the tests has as many bytes.
-const MOST_BITCODE: usize = 4096;
 
 /// A kernel of one store.
 const KERNEL: &[u8] =
@@ -105,38 +94,4 @@ fn other_names_are_refused(rt: HostRuntime) -> Result<(), Fail> {
         assert_refused(&rt, &run, line);
     }
     Ok(())
-}
-
-/// The module that a container holds.
-fn module_of(rt: &HostRuntime, bytes: &[u8]) -> Result<Module, Fail>
-    ensures { IfOk result IsSound }
-{
-    let content = unpack(bytes).ok().ok_or("no container")?;
-    if content.bitcode.len() >= MOST_BITCODE {
-        return Err(Fail::from("a long container"));
-    }
-    let blocks = read_blocks(rt.alloc(), content.bitcode)
-        .ok()
-        .ok_or("no blocks")?;
-    let module = from_blocks(rt.alloc(), &blocks).ok().ok_or("no module")?;
-    Ok(module)
-}
-
-#[test]
-fn another_triple_breaks_the_first_rule(rt: HostRuntime) -> Result<(), Fail> {
-    let bytes = container(&rt)?;
-    let mut module = module_of(&rt, bytes.as_slice())?;
-    let functions = module.functions.len();
-    module.triple = Text::from_slice(rt.alloc(), b"x")?;
-    match validate(module) {
-        Err(Invalid::Broken { rule, spot, module }) => {
-            assert_eq!(rt; rule, 1);
-            assert_eq!(rt; spot, Spot::MODULE);
-            assert_eq!(rt; module.triple.as_slice(), b"x".as_slice());
-            assert_eq!(rt; module.functions.len(), functions);
-            Ok(())
-        }
-        Err(Invalid::Memory { .. }) => Err(Fail::from("out of memory")),
-        Ok(_) => Err(Fail::from("the module passes")),
-    }
 }

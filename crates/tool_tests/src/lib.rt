@@ -7,3 +7,5 @@ mod checks;
 mod containers;
 #[cfg(test)]
 mod run;
+#[cfg(test)]
+mod verdicts;

@@ -1,0 +1,5 @@
+use Rattle.hl_rules.proofs.FirstLemmas.{at_most_one_program}
+use Rattle.hl_rules.proofs.laws.at_most_one_program.Goals as goal
+
+pub returns : goal.returns
+returns c = at_most_one_program

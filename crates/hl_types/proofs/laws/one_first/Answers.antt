@@ -1,5 +1,0 @@
-use Rattle.hl_types.proofs.Gathering.{one_first}
-use Rattle.hl_types.proofs.laws.one_first.Goals as goal
-
-pub returns : goal.returns
-returns c = one_first

@@ -26,10 +26,6 @@ use Rattle.hl_rules.specs.Sites.{is_entry, is_numthreads}
 use Rattle.hl_rules.specs.Source.{terminal_at}
 use Rattle.hl_rules.specs.Values.{is_word, type_in}
 
--- the tokens at which something is broken: this one, if it is
-abbrev pub broken_if : Bool → ℕ → List ℕ
-broken_if broken at = if broken then at ∷ [] else []
-
 -- whether a type is known and passes
 abbrev pub is_known : (Ty → Bool) → Option Ty → Bool
 is_known test None = false

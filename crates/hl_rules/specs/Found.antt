@@ -1,18 +1,22 @@
 -- Rules that are broken at tokens, and the first of several.
-use Rattle.std.specs.Prelude.{◌≡◌, ℕ, ◌<◌, ◌≤◌, ◌==◌, ◌&&◌, ◌||◌, ◌⊎◌, Bool, if◌then◌else◌, nat_lt, List, [], ◌∷◌, Option, None, Some}
+use Rattle.std.specs.Prelude.{◌≡◌, map, ℕ, ◌<◌, ◌≤◌, ◌==◌, ◌&&◌, ◌||◌, ◌⊎◌, Bool, if◌then◌else◌, nat_lt, List, [], ◌∷◌, Option, None, Some}
+use Rattle.hl_rules.specs.declared.found.Broken.{Broken}
 
 -- it stands in a list
 abbrev pub Among : {A : Type 0} → List A → A → Type 0
 Among [] x = ⊥
 Among (y ∷ ys) x = (y ≡ x) ⊎ Among ys x
 
--- a rule that is broken at a token
-pub record Broken : Type 0 where
-  pub at : ℕ
-  pub rule : ℕ
-
 abbrev pub broken : (at rule : ℕ) → Broken
 broken at rule = record { at = at; rule = rule }
+
+-- the tokens at which something is broken: this one, if it is
+abbrev pub broken_if : Bool → ℕ → List ℕ
+broken_if broken at = if broken then at ∷ [] else []
+
+-- a rule that is broken at tokens
+abbrev pub breaking : (rule : ℕ) → List ℕ → List Broken
+breaking rule tokens = map (λ at. broken at rule) tokens
 
 -- it isn't behind the other: it is at a lesser token, or at the same one with a rule that is no greater
 abbrev pub IsNotBehind : Broken → Broken → Type 0

@@ -4,14 +4,11 @@ use Rattle.hl_lexer.specs.Tokens.{Lexeme}
 use Rattle.hl_parser.specs.Trees.{Tree}
 use Rattle.hl_rules.specs.DeclarationRules.{rule_1, rule_2, rule_3, rule_4, rule_5, rule_6, rule_7, rule_8, rule_9, rule_10, rule_11, rule_12, rule_13, rule_14, rule_15, rule_16, rule_17, rule_21, rule_42}
 use Rattle.hl_rules.specs.ExpressionRules.{rule_18, rule_19, rule_20, rule_22, rule_23, rule_24, rule_25, rule_26, rule_27, rule_28, rule_29, rule_30, rule_31, rule_32, rule_33, rule_34, rule_35, rule_36, rule_37, rule_38, rule_39, rule_40, rule_41}
-use Rattle.hl_rules.specs.Found.{Among, Broken, IsNotBehind, broken, gathered}
+use Rattle.hl_rules.specs.Found.{Among, IsNotBehind, breaking, broken, gathered}
+use Rattle.hl_rules.specs.declared.found.Broken.{Broken}
 use Rattle.hl_rules.specs.Parts.{Part, Site}
 use Rattle.hl_rules.specs.Scopes.{Scope}
 use Rattle.hl_rules.specs.Sites.{program_sites}
-
--- a rule that is broken at tokens
-abbrev pub breaking : (rule : ℕ) → List ℕ → List Broken
-breaking rule tokens = map (λ at. broken at rule) tokens
 
 -- a rule by its number, with the tokens at which a part breaks it in a scope
 pub record Rule : Type 0 where
@@ -88,6 +85,10 @@ BreaksNothing tree tokens entry = (at rule : ℕ) → ¬ Breaks tree tokens entr
 -- what the sites break, one behind the other
 abbrev pub broken_in : List Site → List Broken
 broken_in sites = flat_map (λ place. broken_by place.scope place.part) sites
+
+-- the first of what was found and what these sites break
+unfoldable pub noted : Option Broken → List Site → Option Broken
+noted found sites = gathered found (broken_in sites)
 
 -- what is the first that a program breaks, if it breaks anything
 abbrev pub first_broken : Tree → List Lexeme → (entry : List ℕ) → Option Broken

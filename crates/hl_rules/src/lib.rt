@@ -1,4 +1,7 @@
 //! The typing rules of the language, and the typed program of a tree.
 #![tactic(auto)]
 
+mod found;
 pub mod laws;
+
+pub use found::{Broken, note_if};

@@ -260,20 +260,17 @@ function_result s number = option_and_then (λ f. f.result) (slice_get s.functio
 abbrev pub is_word : Ty → Bool
 is_word ty = is_scalar ty && is_numeric ty
 
+-- whether a type is known and passes
+abbrev pub is_known : (Ty → Bool) → Option Ty → Bool
+is_known test None = false
+is_known test (Some ty) = test ty
+
 abbrev pub is_basic_value : Value → Bool
-is_basic_value v = is_basic_if v.ty
-  where
-    is_basic_if : Option Ty → Bool
-    is_basic_if None = false
-    is_basic_if (Some ty) = is_basic ty
+is_basic_value v = is_known is_basic v.ty
 
 -- whether a value has a type that converts to another one
 abbrev pub converts_to : Ty → Value → Bool
-converts_to ty v = converts_if v.ty
-  where
-    converts_if : Option Ty → Bool
-    converts_if None = false
-    converts_if (Some from) = converts from ty
+converts_to ty v = is_known (λ from. converts from ty) v.ty
 
 abbrev pub holds_if : {A : Type 0} → (A → Bool) → Option A → Bool
 holds_if test None = true
@@ -281,11 +278,7 @@ holds_if test (Some x) = test x
 
 -- a place that may be written, of a type that passes
 abbrev pub is_written_place : (Ty → Bool) → Value → Bool
-is_written_place test v = may_be_written v.standing && is_of_type v.ty
-  where
-    is_of_type : Option Ty → Bool
-    is_of_type None = false
-    is_of_type (Some ty) = test ty
+is_written_place test v = may_be_written v.standing && is_known test v.ty
 
 -- whether the operands of an interlocked operation fit, with what the original must be
 abbrev pub operands_fit : (Ty → Bool) → Operands Value → Bool

@@ -6,3 +6,4 @@ pub mod TypeLemmas
 pub mod Becoming
 pub mod OperatorForms
 pub mod PlaceForms
+pub mod LayoutForms

@@ -7,3 +7,4 @@ pub mod Becoming
 pub mod OperatorForms
 pub mod PlaceForms
 pub mod LayoutForms
+pub mod StructForms

@@ -8,3 +8,4 @@ pub mod OperatorForms
 pub mod PlaceForms
 pub mod LayoutForms
 pub mod StructForms
+pub mod StructLayout

@@ -1,8 +1,10 @@
 mod FirstLemmas
-pub mod Gathering
-pub mod Free
-pub mod Noting
-pub mod TypeLemmas
 pub mod Becoming
+pub mod Fitting
+pub mod Free
+pub mod Gathering
+pub mod Noting
 pub mod OperatorForms
 pub mod PlaceForms
+pub mod Shapes
+pub mod TypeLemmas

@@ -11,9 +11,9 @@ use Rattle.hl_meaning.specs.Layout.{kinds_of, words_of}
 use Rattle.hl_meaning.specs.Places as places
 use Rattle.hl_meaning.specs.Places.{is_atomic_root, is_writable_root, root_type}
 use Rattle.hl_meaning.specs.Programs.{FunctionDef, Resource, StructDef}
-use Rattle.hl_meaning.specs.WellFormed.{IsDeclared, IsExpr, IsPlace, IsResult, Param, callee_params, callee_result}
+use Rattle.hl_meaning.specs.WellFormed.{IsDeclared, IsExpr, IsPlace, IsResult, Param as Parameter, callee_params, callee_result}
+use Rattle.hl_overload.specs.Choice.{Param}
 use Rattle.hl_rules.specs.Nodes.{Code, a_place_code, a_value_code}
-use Rattle.hl_rules.specs.Overloads.{Passed}
 use Rattle.hl_rules.specs.Scopes.{BufferInfo, FunctionInfo, MemberInfo, Scope, StructInfo, VariableInfo, a_buffer_name, a_variable_name, sort_of, type_words}
 use Rattle.hl_rules.specs.Source.{number_at, terminal_at, text_at}
 use Rattle.hl_rules.specs.Statements.{struct_defs}
@@ -28,7 +28,7 @@ pub record AreTokens (tokens : List Lexeme) : Type 0 where
 
 -- a function's parameters and its result have types
 pub record IsKnownFunction (f : FunctionInfo) : Type 0 where
-  pub params : (known : List Passed) × (params_known f.params ≡ Some known)
+  pub params : (known : List Param) × (params_known f.params ≡ Some known)
   pub result : (ty : Ty) × (f.result ≡ Some ty)
 
 -- All that a scope knows has types, and its numbers name what is there. So it is where no rule is broken so far.
@@ -69,12 +69,12 @@ pub record FitsVariable (env : places.Scope) (v : VariableInfo) (ty : Ty) : Type
   pub writes : v.is_const ≡ false → is_writable_root env v.root ≡ true
   pub whole : is_element_root v.root ≡ false
 
-abbrev pub param_for : Passed → Option Param
+abbrev pub param_for : Param → Option Parameter
 param_for p = Some (record { ty = p.ty; copying = p.copying })
 
 -- a function is one of the program, with parameters and a result of these types
 pub record FitsFunction (env : places.Scope) (f : FunctionInfo) (def : Option FunctionDef) : Type 0 where
-  pub params : (known : List Passed) → params_known f.params ≡ Some known → (callee_params def ≡ map param_for known) × All (λ p. IsDeclared env.structs p.ty) known
+  pub params : (known : List Param) → params_known f.params ≡ Some known → (callee_params def ≡ map param_for known) × All (λ p. IsDeclared env.structs p.ty) known
   pub result : (ty : Ty) → f.result ≡ Some ty → (callee_result def ≡ Some ty) × IsResult env.structs ty
 
 -- the number of the function whose body stands around

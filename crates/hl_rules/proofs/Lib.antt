@@ -6,5 +6,6 @@ pub mod Gathering
 pub mod Noting
 pub mod OperatorForms
 pub mod PlaceForms
+pub mod Relations
 pub mod Shapes
 pub mod TypeLemmas

@@ -1,11 +1,15 @@
 mod FirstLemmas
-pub mod Gathering
-pub mod Free
-pub mod Noting
-pub mod TypeLemmas
 pub mod Becoming
+pub mod Fitting
+pub mod Free
+pub mod Gathering
+pub mod LayoutForms
+pub mod Noting
 pub mod OperatorForms
 pub mod PlaceForms
-pub mod LayoutForms
+pub mod Relations
+pub mod Shapes
 pub mod StructForms
 pub mod StructLayout
+pub mod StructMembers
+pub mod TypeLemmas

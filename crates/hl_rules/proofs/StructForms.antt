@@ -1,7 +1,7 @@
 -- Structs that are known have the layout of those that the program has.
-use Rattle.std.proofs.Common.{◌≡◌, ◌∙◌, refl, sym, ap, subst, ℕ, zero, suc, ◌+◌, ◌*◌, ◌<◌, ◌≤◌, List, [], ◌∷◌, ◌++◌, length, map, take, Some, append_assoc, length-append, arith}
+use Rattle.std.proofs.Common.{drop, take-append-drop, ◌≡◌, ◌∙◌, refl, sym, ap, subst, ℕ, zero, suc, ◌+◌, ◌*◌, ◌<◌, ◌≤◌, List, [], ◌∷◌, ◌++◌, length, map, take, Some, append_assoc, length-append, arith}
 use Rattle.std.specs.Prelude.{slice_get, unwrap_or, option_and_then, option_map}
-use Rattle.std.proofs.lemmas.List.{append-nil, length-map}
+use Rattle.std.proofs.lemmas.List.{append-nil, length-map, map-append}
 use Rattle.std.proofs.lemmas.List.Sums.{sum_by-cons}
 use Rattle.hl_meaning.specs.Types.{Ty, array_type, scalar_type, struct_type, vector_type, void_type}
 use Rattle.hl_meaning.specs.Programs.{StructDef}
@@ -87,6 +87,10 @@ words-at : (words : List ℕ) (structs : List StructInfo) (n : ℕ) → AreKnown
 words-at words [] n known h = absurd (omega (arith, h))
 words-at words (d ∷ structs) zero known h = known.0.has_words ∙ ap (λ o. Some (unwrap_or o 0)) (sym known.0.has_words)
 words-at words (d ∷ structs) (suc n) known h = words-at (words ++ words_known d ∷ []) structs n known.1 (omega arith)
+
+-- the words of structs are those of the first ones, and of those behind
+pub known-split : (structs : List StructInfo) (n : ℕ) → known_words structs ≡ known_words (take n structs) ++ known_words (drop n structs)
+known-split structs n = ap known_words (sym (take-append-drop n structs)) ∙ map-append words_known (take n structs) (drop n structs)
 
 -- ---- words
 

@@ -78,7 +78,7 @@ member-known structs number place d m known e k = known_member-at (known_words (
 -- ---- offsets
 
 -- each member stands behind the words of those before it
-offsets-from : (words : List ℕ) (structs : List StructInfo) (offset : ℕ) (members : List MemberInfo) (place : ℕ) (m : Member) →
+pub offsets-from : (words : List ℕ) (structs : List StructInfo) (offset : ℕ) (members : List MemberInfo) (place : ℕ) (m : Member) →
     ((ty : Ty) → IsBelow (length words) ty → unwrap_or (type_words structs ty) 0 ≡ words_in (known_words structs) ty) → AreKnownMembers words members → slice_get (members_from structs offset members) place ≡ Some m →
     m.offset ≡ offset + member_words (known_words structs) (take place (members_from structs offset members))
 offsets-from words structs offset [] place m laid known e = absurd (cc e)

@@ -6,3 +6,7 @@ pub mod TypeLemmas
 pub mod Becoming
 pub mod OperatorForms
 pub mod PlaceForms
+pub mod Walking
+pub mod Productions
+pub mod Shapes
+pub mod TreeShapes

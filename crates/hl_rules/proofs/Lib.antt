@@ -1,5 +1,6 @@
 mod FirstLemmas
 pub mod Becoming
+pub mod DeclaratorForms
 pub mod Fitting
 pub mod Free
 pub mod Gathering
@@ -10,6 +11,7 @@ pub mod PlaceForms
 pub mod Productions
 pub mod Relations
 pub mod Shapes
+pub mod Soundness
 pub mod StructForms
 pub mod StructLayout
 pub mod StructMembers

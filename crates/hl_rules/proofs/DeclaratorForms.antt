@@ -1,5 +1,5 @@
 -- The types that declarations give where no rule is broken.
-use Rattle.std.proofs.Common.{◌≡◌, ◌∙◌, ◌⊎◌, inl, inr, refl, sym, ap, subst, ℕ, zero, suc, ◌+◌, ◌*◌, ◌<◌, ◌≤◌, Bool, true, false, ◌&&◌, ◌||◌, if◌then◌else◌, List, [], ◌∷◌, ◌++◌, length, map, Option, Some, None, arith}
+use Rattle.std.proofs.Common.{◌≡◌, ◌∙◌, ◌⊎◌, inl, inr, refl, sym, ap, subst, ℕ, zero, suc, ◌+◌, ◌<◌, ◌≤◌, Bool, true, false, ◌&&◌, ◌||◌, if◌then◌else◌, List, [], ◌∷◌, ◌++◌, length, Option, Some, None, arith}
 use Rattle.std.specs.Prelude.{IsTrue, ◌==◌, is_none, nat_le, nat_lt, option_and_then, option_map, slice_get, unwrap_or}
 use Rattle.std.proofs.lemmas.List.{length-map}
 use Rattle.hl_lexer.specs.declared.terminal.Terminal.{Terminal}
@@ -9,14 +9,13 @@ use Rattle.hl_parser.specs.Trees.{Tree, Trees, a_declarator, a_result, a_type, a
 use Rattle.hl_meaning.specs.declared.ty.Kind.{Kind}
 use Rattle.hl_meaning.specs.Types.{Ty, array_type, scalar_type, struct_type, vector_type, void_type}
 use Rattle.hl_meaning.specs.Layout.{words_in}
-use Rattle.hl_meaning.specs.WellFormed.{IsDeclared, IsResult, most_words}
+use Rattle.hl_meaning.specs.WellFormed.{most_words}
 use Rattle.hl_rules.specs.Constants.{array_length, array_of, constant_number, declarator_type, length_if, most_length, most_lengths, named_type, result_type, struct_of_sort, tree_count, word_type}
 use Rattle.hl_rules.specs.DeclarationRules.{is_more, is_other_sort, is_struct_sort}
-use Rattle.hl_rules.specs.Parts.{Site, a_declared, a_length, a_type_name, site}
-use Rattle.hl_rules.specs.Scopes.{Scope, Sort, StructInfo, a_buffer_name, a_function_name, a_struct_name, a_variable_name, sort_at, spelled, type_words, words_if}
+use Rattle.hl_rules.specs.Parts.{a_declared, a_length, a_type_name, site}
+use Rattle.hl_rules.specs.Scopes.{Scope, Sort, StructInfo, a_buffer_name, a_function_name, a_struct_name, a_variable_name, sort_at, spelled, words_if}
 use Rattle.hl_rules.specs.Sites.{declarator_sites, lengths_sites, result_sites, type_sites, value_sites}
 use Rattle.hl_rules.proofs.Free.{IsFree, free-first, free-left, free-rest, free-right, not_broken}
-use Rattle.hl_rules.proofs.Shapes.{AreExpressions}
 use Rattle.hl_rules.proofs.Soundness.{IsSound}
 use Rattle.hl_rules.proofs.StructForms.{AreKnownStructs, IsKnownType, IsTypeBelow, known_words, type_below, type_words-known, words_known}
 use Rattle.hl_rules.proofs.TreeShapes.{IsDeclarator, IsResultOf, IsTypeName}

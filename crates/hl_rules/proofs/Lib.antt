@@ -10,6 +10,7 @@ pub mod OperatorForms
 pub mod PlaceForms
 pub mod Productions
 pub mod Relations
+pub mod ScopeForms
 pub mod Shapes
 pub mod Soundness
 pub mod StructForms
@@ -17,4 +18,5 @@ pub mod StructLayout
 pub mod StructMembers
 pub mod TreeShapes
 pub mod TypeLemmas
+pub mod VariableCounts
 pub mod Walking

@@ -4,6 +4,7 @@ pub mod DeclaratorForms
 pub mod Fitting
 pub mod Free
 pub mod Gathering
+pub mod InitForms
 pub mod LayoutForms
 pub mod Noting
 pub mod OperatorForms
@@ -18,5 +19,6 @@ pub mod StructLayout
 pub mod StructMembers
 pub mod TreeShapes
 pub mod TypeLemmas
+pub mod ValueForms
 pub mod VariableCounts
 pub mod Walking

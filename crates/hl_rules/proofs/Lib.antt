@@ -6,6 +6,7 @@ pub mod Free
 pub mod Gathering
 pub mod InitForms
 pub mod LayoutForms
+pub mod LocalForms
 pub mod Noting
 pub mod OperatorForms
 pub mod PlaceForms

@@ -1,11 +1,20 @@
 mod FirstLemmas
 pub mod Becoming
+pub mod BinaryForms
 pub mod Fitting
 pub mod Free
 pub mod Gathering
 pub mod Noting
-pub mod OperatorForms
-pub mod PlaceForms
 pub mod Relations
 pub mod Shapes
 pub mod TypeLemmas
+pub mod PathSteps
+pub mod SwizzleSteps
+pub mod Paths
+pub mod ShortTypes
+pub mod Searching
+pub mod StepForms
+pub mod WriteForms
+pub mod SignForms
+pub mod ChoiceForms
+pub mod Marks

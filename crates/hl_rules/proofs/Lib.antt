@@ -12,6 +12,9 @@ pub mod PathSteps
 pub mod SwizzleSteps
 pub mod Paths
 pub mod ShortTypes
+pub mod IndexForms
+pub mod PlaceForms
+pub mod DotForms
 pub mod Searching
 pub mod StepForms
 pub mod WriteForms

@@ -12,6 +12,8 @@ pub mod PathSteps
 pub mod SwizzleSteps
 pub mod Paths
 pub mod ShortTypes
+pub mod Arguments
+pub mod BuildForms
 pub mod IndexForms
 pub mod PlaceForms
 pub mod DotForms

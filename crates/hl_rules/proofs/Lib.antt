@@ -10,3 +10,6 @@ pub mod Walking
 pub mod Productions
 pub mod Shapes
 pub mod TreeShapes
+pub mod ExpressionShapes
+pub mod DeclarationShapes
+pub mod StatementShapes

@@ -1,9 +1,9 @@
 mod FirstLemmas
-pub mod Gathering
-pub mod Free
-pub mod Noting
-pub mod TypeLemmas
 pub mod Becoming
+pub mod Fitting
+pub mod Free
+pub mod Gathering
+pub mod Noting
 pub mod OperatorForms
 pub mod PlaceForms
 pub mod Walking
@@ -13,3 +13,5 @@ pub mod TreeShapes
 pub mod ExpressionShapes
 pub mod DeclarationShapes
 pub mod StatementShapes
+pub mod Relations
+pub mod TypeLemmas

@@ -1,6 +1,6 @@
 -- Names, members, swizzles and indexes become what is known of them.
 use Rattle.std.proofs.Common.{◌≡◌, ◌∙◌, refl, sym, ap, subst, ℕ, Bool, true, false, List, length, Option, None, Some}
-use Rattle.std.specs.Prelude.{is_none, option_map, slice_get}
+use Rattle.std.specs.Prelude.{is_none, option_map}
 use Rattle.hl_meaning.specs.declared.ty.Kind.{Kind}
 use Rattle.hl_meaning.specs.Types.{Ty, array_type, components_type, is_void, scalar_type, struct_type, vector_type, void_type}
 use Rattle.hl_meaning.specs.Trees.{Expr, PathPart, a_location, an_expr, index_part, member_part, no_parts, pick_form, swizzle_part, type_of}
@@ -8,18 +8,10 @@ use Rattle.hl_rules.specs.DeclarationRules.{is_other_sort, is_variable_sort}
 use Rattle.hl_rules.specs.ExpressionRules.{is_no_member, is_no_swizzle}
 use Rattle.hl_rules.specs.Expressions.{dotted_into, indexed_into, member_code, swizzled_code, variable_code}
 use Rattle.hl_rules.specs.Nodes.{Code, a_place_code, a_value_code, type_of_code, with_part}
-use Rattle.hl_rules.specs.Scopes.{BufferInfo, Scope, Sort, VariableInfo, a_buffer_name, a_function_name, a_struct_name, a_variable_name, sort_of}
+use Rattle.hl_rules.specs.Scopes.{Scope, Sort, VariableInfo, a_buffer_name, a_function_name, a_struct_name, a_variable_name}
 use Rattle.hl_rules.specs.Values.{Standing, a_place, dotted_value, indexed, indexed_value, letters_within, member_number, member_type, members_of, no_place, sort_value, stepped, swizzle_value, swizzled, unclear, value}
 use Rattle.hl_rules.proofs.Becoming.{Agrees, Becomes}
-
--- ---- scopes
-
--- All that a scope knows has types, and its numbers name what is there. So it is where no rule is broken so far.
-pub record IsKnown (s : Scope) : Type 0 where
-  pub variables : (name : List ℕ) (v : VariableInfo) → sort_of s name ≡ Some (a_variable_name v) → (ty : Ty) × (v.ty ≡ Some ty)
-  pub members : (number member : ℕ) (name : List ℕ) → member_number (members_of s number) name ≡ Some member → (ty : Ty) × (member_type s number name ≡ Some ty)
-  pub buffers : (name : List ℕ) (number : ℕ) → sort_of s name ≡ Some (a_buffer_name number) → (buffer : BufferInfo) × (slice_get s.buffers number ≡ Some buffer)
-  pub elements : (number : ℕ) (buffer : BufferInfo) → slice_get s.buffers number ≡ Some buffer → buffer.raw ≡ false → (ty : Ty) × (buffer.element ≡ Some ty)
+use Rattle.hl_rules.proofs.Fitting.{IsKnown}
 
 -- ---- names
 

@@ -11,11 +11,14 @@ use Rattle.hl_meaning.specs.declared.program.Copying.TheVariants.{CopyIn}
 use Rattle.hl_meaning.specs.Types.{Ty, array_type, bool_type, components_type, scalar_type, struct_type, uint_type, vector_type, void_type, with_kind}
 use Rattle.hl_meaning.specs.Trees.{Arg, Args, Expr, Location, a_location, an_expr, binary_form, build_form, bytes_target, call_form, choose_form, element_root, index_part, intrinsic_form, literal_form, member_part, method_form, more_args, no_args, no_expr, no_parts, place_arg, place_target, place_type, read_form, some_expr, swizzle_part, unary_form, value_arg, write_form}
 use Rattle.hl_meaning.specs.Intrinsics.{signature_of}
+use Rattle.hl_overload.specs.Choice.{Param}
 use Rattle.hl_rules.specs.Constants.{basic_type, constant_number}
-use Rattle.hl_rules.specs.Intrinsics.{InterlockedForm, Method, does_atomic, interlocked_form, intrinsic_named, loads_element, loads_words, method_of, operands_of, passed, stores_words}
+use Rattle.hl_rules.specs.declared.interlocked.Interlocked.{Interlocked}
+use Rattle.hl_rules.specs.declared.interlocked.Method.{Method}
+use Rattle.hl_rules.specs.declared.interlocked.Method.TheVariants.{DoesAtomic, LoadsElement, LoadsWords, StoresWords}
+use Rattle.hl_rules.specs.Intrinsics.{interlocked_form, intrinsic_named, method_of, operands_of, passed}
 use Rattle.hl_rules.specs.Nodes.{Code, a_place_code, a_value, a_value_code, bytes_operand, converted_code, converted_each, in_kind, interlocked, place_of_code, type_of_code, value_of_code, with_part}
 use Rattle.hl_rules.specs.Operands.{choice_type, kind_of, operand_type, operator_type, negated_type, signed_type}
-use Rattle.hl_rules.specs.Overloads.{Passed}
 use Rattle.hl_rules.specs.Scopes.{BufferInfo, Scope, Sort, a_function_name, a_variable_name, sort_at, spelled}
 use Rattle.hl_rules.specs.Sites.{compound_production}
 use Rattle.hl_rules.specs.Source.{mark_at, number_at, terminal_at}
@@ -175,7 +178,7 @@ abbrev pub passed_arg : Copying → Ty → Code → Option Arg
 passed_arg CopyIn ty code = option_map value_arg (converted_code ty code)
 passed_arg _ ty code = option_map place_arg (place_of_code code)
 
-abbrev pub passed_args : List Passed → List Code → Option Args
+abbrev pub passed_args : List Param → List Code → Option Args
 passed_args [] [] = Some no_args
 passed_args (p ∷ params) (code ∷ codes) =
     option_and_then (λ first. option_map (λ rest. more_args first rest) (passed_args params codes)) (passed_arg p.copying p.ty code)
@@ -188,13 +191,13 @@ function_code s at candidate codes =
     (function_result s candidate.number)
 
 -- an interlocked operation on a place
-abbrev pub interlocked_code : (at : ℕ) → InterlockedForm → List Code → Option Code
+abbrev pub interlocked_code : (at : ℕ) → Interlocked → List Code → Option Code
 interlocked_code at form [] = None
 interlocked_code at form (target ∷ codes) =
     option_and_then (λ o. option_and_then (λ place. interlocked at (place_target place) (place_type place) form o) (place_of_code target)) (operands_of form codes)
 
 -- an interlocked operation, or else another intrinsic function, whose arguments are converted to what it takes
-abbrev pub code_by_form : Option InterlockedForm → (at number : ℕ) → List Code → Option Code
+abbrev pub code_by_form : Option Interlocked → (at number : ℕ) → List Code → Option Code
 code_by_form (Some form) at number codes = interlocked_code at form codes
 code_by_form None at number codes =
     option_and_then (λ p. option_and_then (λ args. a_value p.gives at (intrinsic_form number args)) (converted_each p.takes codes))
@@ -224,15 +227,15 @@ trees_of_args _ = no_trees
 -- A method of a byte-address buffer takes an address, which is converted to uint. A structured buffer's `Load` reads an
 -- element, by an index; what it gives is no place.
 abbrev pub method_code : Scope → (at number : ℕ) → Method → Trees → List Code → Option Code
-method_code s at number (loads_words count) trees (address ∷ []) =
+method_code s at number (LoadsWords count) trees (address ∷ []) =
     option_and_then (λ a. a_value (components_type UintKind count) at (method_form number count a no_expr)) (converted_code uint_type address)
-method_code s at number (stores_words count) trees (address ∷ value ∷ []) =
+method_code s at number (StoresWords count) trees (address ∷ value ∷ []) =
     option_and_then (λ a. option_and_then (λ v. a_value void_type at (method_form number count a (some_expr v))) (converted_code (components_type UintKind count) value))
     (converted_code uint_type address)
-method_code s at number (does_atomic form) trees (address ∷ codes) =
+method_code s at number (DoesAtomic form) trees (address ∷ codes) =
     option_and_then (λ o. option_and_then (λ a. interlocked at (bytes_target number a) (bytes_operand (type_of_code o.value)) form o) (converted_code uint_type address))
     (operands_of form codes)
-method_code s at number loads_element trees (index ∷ []) =
+method_code s at number LoadsElement trees (index ∷ []) =
     option_and_then (λ i. option_and_then (λ place. a_value (place_type place) at (read_form place)) (element_place s number i))
     (index_expr (first_at trees) (first_number s trees) index)
 method_code s at number _ trees _ = None

@@ -15,3 +15,7 @@ pub mod DeclarationShapes
 pub mod StatementShapes
 pub mod Relations
 pub mod TypeLemmas
+pub mod Options
+pub mod ThreadForms
+pub mod InputForms
+pub mod EntryParams

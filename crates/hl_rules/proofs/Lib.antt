@@ -19,3 +19,7 @@ pub mod Options
 pub mod ThreadForms
 pub mod InputForms
 pub mod EntryParams
+pub mod FunctionEntry
+pub mod ItemForms
+pub mod EntryForms
+pub mod ProgramEntry

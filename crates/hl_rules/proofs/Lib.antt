@@ -1,19 +1,26 @@
 mod FirstLemmas
 pub mod Becoming
+pub mod DeclaratorForms
 pub mod Fitting
 pub mod Free
 pub mod Gathering
+pub mod LayoutForms
 pub mod Noting
 pub mod OperatorForms
 pub mod PlaceForms
 pub mod Walking
 pub mod Productions
+pub mod Relations
+pub mod ScopeForms
 pub mod Shapes
+pub mod Soundness
+pub mod StructForms
+pub mod StructLayout
+pub mod StructMembers
 pub mod TreeShapes
 pub mod ExpressionShapes
 pub mod DeclarationShapes
 pub mod StatementShapes
-pub mod Relations
 pub mod TypeLemmas
 pub mod Options
 pub mod ThreadForms
@@ -23,3 +30,4 @@ pub mod FunctionEntry
 pub mod ItemForms
 pub mod EntryForms
 pub mod ProgramEntry
+pub mod VariableCounts

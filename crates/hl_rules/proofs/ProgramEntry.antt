@@ -1,7 +1,8 @@
 -- Items that break no rule have an entry, with threads.
-use Rattle.std.proofs.Common.{◌≡◌, ◌∙◌, refl, sym, ap, subst, ℕ, zero, suc, ◌+◌, Bool, true, false, if◌then◌else◌, not, List, [], ◌∷◌, ◌++◌, length, Option, None, Some, append_assoc, arith}
+use Rattle.std.proofs.Common.{◌≡◌, ◌∙◌, refl, sym, ap, subst, ℕ, zero, suc, ◌+◌, ◌<◌, Bool, true, false, if◌then◌else◌, not, List, [], ◌∷◌, ◌++◌, length, Option, None, Some, append_assoc, arith}
 use Rattle.std.specs.Prelude.{◌&&◌, ◌||◌, bytes_eq, cond, nat_lt, option_map, position, slice_get}
 use Rattle.std.specs.List.{list_any, position_or_len}
+use Rattle.std.proofs.lemmas.List.{length-append}
 use Rattle.std.proofs.lemmas.List.Folds.{list_any-append}
 use Rattle.hl_lexer.specs.Tokens.{Lexeme}
 use Rattle.hl_parser.specs.Trees.{Tree, Trees, a_buffer, a_constant, a_function, a_shared, a_struct, an_item, more_trees, no_trees}
@@ -155,3 +156,28 @@ position-seam p (y ∷ before) x after e h = on (p y) (λ k. position-seam p bef
     on : (here : Bool) → (list_any p before ≡ false → position_or_len p (before ++ x ∷ after) ≡ length before) → here || list_any p before ≡ false → cond (not here) (1 + position_or_len p (before ++ x ∷ after)) 0 ≡ suc (length before)
     on true next k = absurd (cc k)
     on false next k = ap (λ n. 1 + n) (next k) ∙ omega arith
+
+position-number : {A : Type 0} (p : A → Bool) (before : List A) (x : A) (after : List A) → list_any p before ≡ false → p x ≡ true → position p (before ++ x ∷ after) ≡ Some (length before)
+position-number p before x after e h =
+    ap (λ n. cond (nat_lt n (length (before ++ x ∷ after))) (Some n) None) (position-seam p before x after e h)
+    ∙ ap (λ b. cond b (Some (length before)) None) (within (length before) (length (before ++ x ∷ after)) (omega (arith, length-append before (x ∷ after))))
+  where
+    within : (m n : ℕ) → m < n → nat_lt m n ≡ true
+    within m n k = grind arith
+
+-- items keep the name of the entry
+pub entry-behind : (tokens : List Lexeme) (s : Scope) (items : Trees) → AllTrees (IsItem tokens) items → (after_items s items).entry ≡ s.entry
+entry-behind tokens s no_trees shape = refl
+entry-behind tokens s (more_trees (an_item place (a_function at attributes result name params block)) rest) shape = entry-behind tokens (with_function s result name params) rest shape.1
+entry-behind tokens s (more_trees (an_item place (a_struct at name members)) rest) shape = entry-behind tokens (after_item s (a_struct at name members)) rest shape.1
+entry-behind tokens s (more_trees (an_item place (a_buffer at kind name register space)) rest) shape = entry-behind tokens (after_item s (a_buffer at kind name register space)) rest shape.1
+entry-behind tokens s (more_trees (an_item place (a_shared at type declarators)) rest) shape = entry-behind tokens (after_item s (a_shared at type declarators)) rest shape.1 ∙ (other-shared s at place type declarators).entry
+entry-behind tokens s (more_trees (an_item place (a_constant at type declarator init)) rest) shape = entry-behind tokens (after_item s (a_constant at type declarator init)) rest shape.1
+entry-behind tokens s (more_trees other rest) shape = absurd shape.0
+
+-- where no function is known before the items, the entry has its place among theirs as its number
+pub entry-number : (tokens : List Lexeme) (s : Scope) (items : Trees) (defs : List FunctionDef) → AllTrees (IsItem tokens) items → s.functions ≡ [] → (found : HasEntry s items defs) → entry_number (after_items s items) ≡ Some (length found.before)
+entry-number tokens s items defs shape e found =
+    ap (λ n. position (is_named n) (after_items s items).functions) (entry-behind tokens s items shape)
+    ∙ (ap (λ l. position (is_named s.entry) l) (found.functions ∙ ap (λ l. l ++ (found.before ++ found.info ∷ found.after)) e)
+    ∙ position-number (is_named s.entry) found.before found.info found.after found.first found.named)

@@ -31,3 +31,5 @@ pub mod ItemForms
 pub mod EntryForms
 pub mod ProgramEntry
 pub mod VariableCounts
+pub mod ConstantNumbers
+pub mod ConstantForms

@@ -33,3 +33,4 @@ pub mod ProgramEntry
 pub mod VariableCounts
 pub mod ConstantNumbers
 pub mod ConstantForms
+pub mod ConstantWords

@@ -4,7 +4,7 @@ use Rattle.std.specs.Prelude.{IsTrue, map}
 use Rattle.hl_lexer.specs.declared.terminal.Terminal.{Terminal}
 use Rattle.hl_lexer.specs.Terminals.{terminal_of}
 use Rattle.hl_lexer.specs.Tokens.{Lexeme}
-use Rattle.hl_parser.specs.Grammar.{As, Mark, Numbered, Operator, Step, Token, Word, nth, numbered, operator_of, ◌or◌, ◌then◌}
+use Rattle.hl_parser.specs.Grammar.{As, At, Mark, Nothing, Numbered, Operator, Step, Token, Word, nth, numbered, operator_of, ◌or◌, ◌then◌}
 use Rattle.hl_rules.specs.Source.{terminal_at}
 
 -- what tokens are for the grammar
@@ -79,3 +79,28 @@ pub walk-map : {P Q : Type 0} (tokens : List Lexeme) (step : Step) → (P → Q)
 walk-map tokens step f g from to h read =
     let walked = g from to h read in
     (f walked.0, walked.1)
+
+-- a step that begins where its first part begins
+pub walk-at : {P : Type 0} (tokens : List Lexeme) (at first : ℕ) (step : Step) → Walks tokens step P → Walks tokens (At at first step) P
+walk-at tokens at first step f from to h read = f from to h.1 read
+
+pub walk-at-kept : {P : Type 0} (tokens : List Lexeme) (at first : ℕ) (step : Step) → Walks tokens step P → Walks tokens (At at first step) ((at ≡ first) × P)
+walk-at-kept tokens at first step f from to h read =
+    let walked = f from to h.1 read in
+    ((h.0, walked.0), walked.1)
+
+-- a step behind a mark, and a step before one
+pub walk-behind : {P : Type 0} (tokens : List Lexeme) (terminal : Terminal) (step : Step) → Walks tokens step P → Walks tokens (Mark terminal then step) P
+walk-behind tokens terminal step f from to h read = f h.0 to h.2 (walk-mark tokens terminal from h.0 h.1 read).1
+
+pub walk-before : {P : Type 0} (tokens : List Lexeme) (terminal : Terminal) (step : Step) → Walks tokens step P → Walks tokens (step then Mark terminal) P
+walk-before tokens terminal step f from to h read =
+    let walked = f from h.0 h.1 read in
+    (walked.0, (walk-mark tokens terminal h.0 to h.2 walked.1).1)
+
+-- a step behind a token
+pub walk-past : {P : Type 0} (tokens : List Lexeme) (index : ℕ) (terminal : Terminal) (step : Step) → Walks tokens step P → Walks tokens (Token index terminal then step) P
+walk-past tokens index terminal step f from to h read = f h.0 to h.2 (walk-token tokens index terminal from h.0 h.1 read).1
+
+pub walk-nothing : {P : Type 0} (tokens : List Lexeme) → P → Walks tokens Nothing P
+walk-nothing tokens p from to e read = (p, subst (λ all. AreRead tokens all) e read)

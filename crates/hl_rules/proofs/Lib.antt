@@ -4,7 +4,9 @@ pub mod DeclaratorForms
 pub mod Fitting
 pub mod Free
 pub mod Gathering
+pub mod InitForms
 pub mod LayoutForms
+pub mod LocalForms
 pub mod Noting
 pub mod OperatorForms
 pub mod PlaceForms
@@ -30,6 +32,7 @@ pub mod FunctionEntry
 pub mod ItemForms
 pub mod EntryForms
 pub mod ProgramEntry
+pub mod ValueForms
 pub mod VariableCounts
 pub mod ConstantNumbers
 pub mod ConstantForms

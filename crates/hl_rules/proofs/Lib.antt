@@ -37,3 +37,4 @@ pub mod VariableCounts
 pub mod ConstantNumbers
 pub mod ConstantForms
 pub mod ConstantWords
+pub mod ResourceForms

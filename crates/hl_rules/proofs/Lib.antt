@@ -38,3 +38,4 @@ pub mod ConstantNumbers
 pub mod ConstantForms
 pub mod ConstantWords
 pub mod ResourceForms
+pub mod ConstantItems

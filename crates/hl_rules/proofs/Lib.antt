@@ -39,3 +39,4 @@ pub mod ConstantForms
 pub mod ConstantWords
 pub mod ResourceForms
 pub mod ConstantItems
+pub mod GlobalForms

@@ -55,3 +55,6 @@ pub mod ValueForms
 pub mod VariableCounts
 pub mod Walking
 pub mod WriteForms
+pub mod ResourceForms
+pub mod ConstantItems
+pub mod GlobalForms

@@ -40,3 +40,4 @@ pub mod ConstantWords
 pub mod ResourceForms
 pub mod ConstantItems
 pub mod GlobalForms
+pub mod StructItems

@@ -115,8 +115,11 @@ other-number m n e h = grind arith
 count-fits : (s : Scope) (before : ℕ) (lengths : Trees) → IsFree (lengths_sites s before lengths) → before ≤ 16 → before + tree_count lengths ≤ 16
 count-fits s before no_trees free h = omega (arith, h)
 count-fits s before (more_trees first rest) free h =
-    omega (arith, count-fits s (suc before) rest (lengths-rest s before first rest free)
-    (other-number before 16 (or-right (is_none (array_length s first)) (before == most_lengths) (length-free s before first rest free)) h))
+    omega (
+      arith,
+      count-fits s (suc before) rest (lengths-rest s before first rest free)
+          (other-number before 16 (or-right (is_none (array_length s first)) (before == most_lengths) (length-free s before first rest free)) h),
+    )
 
 array-known : (s : Scope) (n before : ℕ) (lengths : Trees) (ty : Ty) → IsFree (lengths_sites s before lengths) → IsTypeBelow n ty → (own : Ty) × (array_of s lengths (Some ty) ≡ Some own) × IsTypeBelow n own
 array-known s n before no_trees ty free b = (ty, refl, b)
@@ -155,8 +158,8 @@ declarator-known s sound ty known (a_declarator at lengths) shape free = given (
     given r =
         let is : declarator_type s ty (a_declarator at lengths) ≡ Some r.0 = ap (λ c. if c then array_of s lengths ty else None) few ∙ (ap (λ o. array_of s lengths o) known.is ∙ r.1) in
         let words : words_if s.structs (declarator_type s ty (a_declarator at lengths)) ≡ Some (words_in (known_words s.structs) r.0) =
-            ap (λ o. words_if s.structs o) is
-            ∙ type_words-known s.structs r.0 sound.structs (type_below (length s.structs) r.0 (subst (λ n. IsTypeBelow n r.0) (length-map s.structs words_known) r.2)) in
+        ap (λ o. words_if s.structs o) is
+        ∙ type_words-known s.structs r.0 sound.structs (type_below (length s.structs) r.0 (subst (λ n. IsTypeBelow n r.0) (length-map s.structs words_known) r.2)) in
         record {
           type = r.0;
           is = is;

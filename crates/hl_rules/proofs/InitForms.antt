@@ -170,10 +170,12 @@ brace-made claim s sound ty known at parts shape free = given (leaf-values claim
       type = refl;
       made = λ env fits. (
         result-declared env.structs known.type (declared-there env s known.type sound (names-fit env s fits) known.known),
-        (leaves.made env fits,
-        subst (λ l. Builds env.structs known.type l)
-        (ap (λ (k : List Kind). map scalar_type k) (ap (λ l. kinds_of l known.type) fits.prefix ∙ kinds_of-front (struct_defs s.structs) fits.more known.type (subst (λ n. IsBelow n known.type) (sym (length-map s.structs (struct_def s.structs))) (below-known s known.type known.known))) ∙ sym leaves.types)
-        (builds-kinds env.structs known.type (known-not_void (known_words s.structs) known.type known.known))),
+        (
+          leaves.made env fits,
+          subst (λ l. Builds env.structs known.type l)
+              (ap (λ (k : List Kind). map scalar_type k) (ap (λ l. kinds_of l known.type) fits.prefix ∙ kinds_of-front (struct_defs s.structs) fits.more known.type (subst (λ n. IsBelow n known.type) (sym (length-map s.structs (struct_def s.structs))) (below-known s known.type known.known))) ∙ sym leaves.types)
+              (builds-kinds env.structs known.type (known-not_void (known_words s.structs) known.type known.known)),
+        ),
       );
     }
 

@@ -5,6 +5,7 @@ pub mod Fitting
 pub mod Free
 pub mod Gathering
 pub mod InitForms
+pub mod JumpForms
 pub mod LayoutForms
 pub mod LocalForms
 pub mod Noting
@@ -16,6 +17,9 @@ pub mod Relations
 pub mod ScopeForms
 pub mod Shapes
 pub mod Soundness
+pub mod StartForms
+pub mod StatementForms
+pub mod StatementParts
 pub mod StructForms
 pub mod StructLayout
 pub mod StructMembers

@@ -54,10 +54,10 @@ declaring-joined s t u a b first rest = record {
   same = subst (λ n. IsBehind n s u) (sym (length-append a b)) (behind-joined (length a) (length b) s t u first.same rest.same);
   sound = rest.sound;
   types =
-    All-append (λ (v : Variable). IsKnownType (known_words s.structs) v.ty) a b first.types
-    (subst (λ l. AreKnownVariables (known_words l) b) first.same.structs rest.types);
+      All-append (λ (v : Variable). IsKnownType (known_words s.structs) v.ty) a b first.types
+      (subst (λ l. AreKnownVariables (known_words l) b) first.same.structs rest.types);
   names = λ env fits holds.
-    rest.names env (first.names env fits (holds-left env.variables s.variables a b holds)) (holds-behind s t env.variables a b first.same holds);
+      rest.names env (first.names env fits (holds-left env.variables s.variables a b holds)) (holds-behind s t env.variables a b first.same holds);
 }
 
 -- a type that is known is known where the structs are the same
@@ -74,10 +74,10 @@ variable-declares s name ty is_const sound known = record {
   same = record { tokens = refl; structs = refl; buffers = refl; functions = refl; inside = refl; in_loop = refl; result = refl; variables = refl };
   sound = sound-variable name ty is_const s sound known;
   types =
-    All-cons (λ (v : Variable). IsKnownType (known_words s.structs) v.ty) (variable_of s name ty) [] (known-variable s name ty known)
-    (All-nil (λ (v : Variable). IsKnownType (known_words s.structs) v.ty));
+      All-cons (λ (v : Variable). IsKnownType (known_words s.structs) v.ty) (variable_of s name ty) [] (known-variable s name ty known)
+      (All-nil (λ (v : Variable). IsKnownType (known_words s.structs) v.ty));
   names = λ env fits holds.
-    names-variable env s name ty is_const sound known fits (holds-first env.variables s.variables (variable_of s name ty) [] holds);
+      names-variable env s name ty is_const sound known fits (holds-first env.variables s.variables (variable_of s name ty) [] holds);
 }
 
 -- ---- declarators with initialisers

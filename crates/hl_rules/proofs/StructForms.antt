@@ -65,7 +65,7 @@ known-push words [] d known k = (subst (λ w. IsKnownStruct w d) (append-nil wor
 known-push words (x ∷ structs) d known k = (
   known.0,
   known-push (words ++ words_known x ∷ []) structs d known.1
-  (subst (λ w. IsKnownStruct w d) (sym (append_assoc words (words_known x ∷ []) (known_words structs))) k),
+      (subst (λ w. IsKnownStruct w d) (sym (append_assoc words (words_known x ∷ []) (known_words structs))) k),
 )
 
 pub known-take : (words : List ℕ) (structs : List StructInfo) (n : ℕ) → AreKnownStructs words structs → AreKnownStructs words (take n structs)
@@ -160,10 +160,9 @@ is_type-there ds (struct_type number) b = b
 pub declared-known : (all structs : List StructInfo) (more : List StructDef) (ty : Ty) → AreKnownStructs [] structs → IsKnownType (known_words structs) ty → IsDeclared (map (struct_def all) structs ++ more) ty
 declared-known all structs more ty known k = (
   is_type-there (map (struct_def all) structs ++ more) ty
-  (type_below-more (length (known_words structs)) (length (map (struct_def all) structs ++ more)) ty
-  (omega (arith, length-append (map (struct_def all) structs) more, length-map structs (struct_def all), length-map structs words_known)) k.is_type),
+      (type_below-more (length (known_words structs)) (length (map (struct_def all) structs ++ more)) ty
+      (omega (arith, length-append (map (struct_def all) structs) more, length-map structs (struct_def all), length-map structs words_known)) k.is_type),
   subst (λ n. n ≤ most_words)
-  (sym (words_of-known all structs more ty known (type_below (length structs) ty (subst (λ n. IsTypeBelow n ty) (length-map structs words_known) k.is_type))))
-  k.fits,
+      (sym (words_of-known all structs more ty known (type_below (length structs) ty (subst (λ n. IsTypeBelow n ty) (length-map structs words_known) k.is_type))))
+      k.fits,
 )
-

@@ -101,11 +101,11 @@ unfolding member_offset
 struct-kept structs number d known e k = record {
   some_member = omega (arith, k.some_member, length-members structs 0 d.members);
   types =
-    subst (λ l. All (λ (m : Member). IsDeclared l m.ty) (members_from structs 0 d.members)) (sym (take-map (struct_def structs) number structs))
-    (members-declared structs (take number structs) 0 d.members (known-take [] structs number known) k.members);
+      subst (λ l. All (λ (m : Member). IsDeclared l m.ty) (members_from structs 0 d.members)) (sym (take-map (struct_def structs) number structs))
+      (members-declared structs (take number structs) 0 d.members (known-take [] structs number known) k.members);
   offsets = λ place m there.
-    offsets-from (known_words (take number structs)) structs 0 d.members place m (laid structs number known) k.members there
-    ∙ (ap (λ w. 0 + member_words w (take place (members_from structs 0 d.members))) (sym (struct_words-known structs structs known)) ∙ omega arith);
+      offsets-from (known_words (take number structs)) structs 0 d.members place m (laid structs number known) k.members there
+      ∙ (ap (λ w. 0 + member_words w (take place (members_from structs 0 d.members))) (sym (struct_words-known structs structs known)) ∙ omega arith);
   words = sym (known-words_of structs number d known e);
   fits = subst (λ n. n ≤ most_words) (ap (λ o. unwrap_or o 0) (sym k.has_words)) k.fits;
 }

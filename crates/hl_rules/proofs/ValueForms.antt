@@ -82,8 +82,8 @@ use-done claim s e sound shape free =
       ty = type_of_code done.becomes.to;
       is = done.becomes.type;
       not_void =
-        sym (ap is_nothing done.becomes.type)
-        ∙ not_broken (is_nothing (value_of s e).ty) (at_of e) (free-first (site s (a_use e)) [] (free-right (expression_sites s e) (site s (a_use e) ∷ []) free)).obeys_39;
+          sym (ap is_nothing done.becomes.type)
+          ∙ not_broken (is_nothing (value_of s e).ty) (at_of e) (free-first (site s (a_use e)) [] (free-right (expression_sites s e) (site s (a_use e) ∷ []) free)).obeys_39;
     }
 
 valued-there : (ty : Ty) → is_void ty ≡ false → valued (Some ty) ≡ Some ty

@@ -27,8 +27,8 @@ read-behind before [] = tt
 read-behind before (token ∷ tokens) = (
   terminal-seam before token tokens,
   subst (λ all. AreRead all (numbered (suc (length before)) (terminals_of tokens))) (append_assoc before (token ∷ []) tokens)
-  (subst (λ at. AreRead ((before ++ token ∷ []) ++ tokens) (numbered at (terminals_of tokens))) (length-one before token)
-  (read-behind (before ++ token ∷ []) tokens)),
+      (subst (λ at. AreRead ((before ++ token ∷ []) ++ tokens) (numbered at (terminals_of tokens))) (length-one before token)
+      (read-behind (before ++ token ∷ []) tokens)),
 )
   where
     length-one : (xs : List Lexeme) (x : Lexeme) → length (xs ++ x ∷ []) ≡ suc (length xs)

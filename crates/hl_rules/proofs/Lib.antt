@@ -5,6 +5,7 @@ pub mod BinaryForms
 pub mod BuildForms
 pub mod ChoiceForms
 pub mod ConstantForms
+pub mod ConstantItems
 pub mod ConstantNumbers
 pub mod ConstantWords
 pub mod DeclarationShapes
@@ -17,6 +18,7 @@ pub mod Fitting
 pub mod Free
 pub mod FunctionEntry
 pub mod Gathering
+pub mod GlobalForms
 pub mod IndexForms
 pub mod InitForms
 pub mod InputForms
@@ -33,6 +35,7 @@ pub mod PlaceForms
 pub mod Productions
 pub mod ProgramEntry
 pub mod Relations
+pub mod ResourceForms
 pub mod ScopeForms
 pub mod Searching
 pub mod Shapes
@@ -45,6 +48,7 @@ pub mod StatementParts
 pub mod StatementShapes
 pub mod StepForms
 pub mod StructForms
+pub mod StructItems
 pub mod StructLayout
 pub mod StructMembers
 pub mod SwizzleSteps

@@ -16,6 +16,7 @@ use Rattle.hl_rules.specs.Parts.{a_declared, a_length, a_type_name, site}
 use Rattle.hl_rules.specs.Scopes.{Scope, Sort, StructInfo, a_buffer_name, a_function_name, a_struct_name, a_variable_name, sort_at, spelled, words_if}
 use Rattle.hl_rules.specs.Sites.{declarator_sites, lengths_sites, result_sites, type_sites, value_sites}
 use Rattle.hl_rules.proofs.Free.{IsFree, free-first, free-left, free-rest, free-right, not_broken}
+use Rattle.hl_rules.proofs.Options.{or-one, or-other}
 use Rattle.hl_rules.proofs.Soundness.{IsSound}
 use Rattle.hl_rules.proofs.StructForms.{AreKnownStructs, IsKnownType, IsTypeBelow, known_words, type_below, type_words-known, words_known}
 use Rattle.hl_rules.proofs.TreeShapes.{IsDeclarator, IsResultOf, IsTypeName}

@@ -47,6 +47,7 @@ pub mod StatementForms
 pub mod StatementParts
 pub mod StatementShapes
 pub mod StepForms
+pub mod StructFitting
 pub mod StructForms
 pub mod StructItems
 pub mod StructLayout

@@ -1,10 +1,9 @@
 -- Each known struct keeps what a struct of a program keeps, and a member of a name has its type.
-use Rattle.std.proofs.Common.{drop, suc, ◌≡◌, ◌∙◌, ◌⊎◌, inl, inr, refl, sym, ap, subst, ℕ, ◌+◌, ◌<◌, ◌≤◌, Bool, true, false, cond, get_or, List, [], ◌∷◌, ◌++◌, length, map, take, Some, None, length-take, arith}
-use Rattle.std.specs.Prelude.{slice_get, unwrap_or, option_and_then, option_map, find, position, nat_lt, bytes_eq}
-use Rattle.std.specs.List.{All, position_or_len}
+use Rattle.std.proofs.Common.{drop, suc, ◌≡◌, ◌∙◌, ◌⊎◌, inl, inr, refl, sym, ap, subst, ℕ, ◌+◌, ◌<◌, ◌≤◌, get_or, List, [], ◌∷◌, ◌++◌, length, map, take, Some, None, length-take, arith}
+use Rattle.std.specs.Prelude.{slice_get, unwrap_or, option_and_then, option_map, find, bytes_eq}
+use Rattle.std.specs.List.{All}
 use Rattle.std.proofs.lemmas.List.{append-nil, length-map, take-map}
 use Rattle.std.proofs.lemmas.List.Elements.{All-cons, All-nil}
-use Rattle.std.proofs.lemmas.List.Folds.{find_at}
 use Rattle.std.proofs.lemmas.Option.{slice_get-map, slice_get_cases, slice_get_within}
 use Rattle.hl_meaning.specs.Types.{Ty, struct_type, void_type}
 use Rattle.hl_meaning.specs.Programs.{Member, StructDef}
@@ -53,23 +52,6 @@ named-member s number place name known e = given (slice_get_cases s.structs numb
     given (inr r) = absurd (cc (ap (λ l. member_number l name) (sym (members-absent s number r.1)) ∙ e))
 
 -- ---- structs of the program
-
--- a type that has words names structs that are there
-below-words : (structs : List StructInfo) (ty : Ty) (words : ℕ) → type_words structs ty ≡ Some words → IsBelow (length structs) ty
-below-words structs void_type words e = tt
-below-words structs (scalar_type kind) words e = tt
-below-words structs (vector_type kind size) words e = tt
-below-words structs (array_type element count) words e = on (type_words structs element) refl e
-  where
-    on : (o : Option ℕ) → type_words structs element ≡ o → option_map (λ w. count * w) o ≡ Some words → IsBelow (length structs) element
-    on None h k = absurd (cc k)
-    on (Some w) h k = ?
-below-words structs (struct_type number) words e = ?
-
--- known structs stand in the program, whatever structs come behind
-pub structs-fit : (structs : List StructInfo) (more : List StructDef) → AreKnownStructs [] structs → FitsStructs structs (struct_defs structs ++ more)
-structs-fit structs more known = ?
-
 
 members-declared : (all structs : List StructInfo) (offset : ℕ) (members : List MemberInfo) → AreKnownStructs [] structs → AreKnownMembers (known_words structs) members → All (λ (m : Member). IsDeclared (map (struct_def all) structs) m.ty) (members_from all offset members)
 members-declared all structs offset [] known k = All-nil (λ (m : Member). IsDeclared (map (struct_def all) structs) m.ty)

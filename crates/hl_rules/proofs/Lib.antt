@@ -45,3 +45,4 @@ pub mod ResourceForms
 pub mod ConstantItems
 pub mod GlobalForms
 pub mod StructItems
+pub mod FunctionNames

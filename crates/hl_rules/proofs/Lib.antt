@@ -17,6 +17,7 @@ pub mod ExpressionShapes
 pub mod Fitting
 pub mod Free
 pub mod FunctionEntry
+pub mod FunctionNames
 pub mod Gathering
 pub mod GlobalForms
 pub mod IndexForms

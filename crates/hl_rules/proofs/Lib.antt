@@ -2,6 +2,7 @@ mod FirstLemmas
 pub mod Arguments
 pub mod Becoming
 pub mod BinaryForms
+pub mod BodyForms
 pub mod BuildForms
 pub mod ChoiceForms
 pub mod ConstantForms

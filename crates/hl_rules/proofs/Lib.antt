@@ -46,3 +46,4 @@ pub mod ConstantItems
 pub mod GlobalForms
 pub mod StructItems
 pub mod FunctionNames
+pub mod ParamForms

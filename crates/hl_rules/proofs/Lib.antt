@@ -47,3 +47,4 @@ pub mod GlobalForms
 pub mod StructItems
 pub mod FunctionNames
 pub mod ParamForms
+pub mod CalleeForms

@@ -1,18 +1,17 @@
 -- The words of a constant that breaks no rule.
-use Rattle.std.proofs.Common.{◌≡◌, ◌∙◌, refl, sym, ap, subst, arith, ℕ, zero, suc, ◌+◌, ◌-◌, ◌^◌, ◌<◌, ◌≤◌, Bool, true, false, not, if◌then◌else◌, List, [], ◌∷◌, ◌++◌, map, length, Option, None, Some, length-append}
-use Rattle.std.specs.Prelude.{◌%◌, ◌==◌, ◌&&◌, ◌||◌, is_some, option_and_then, option_map, unwrap_or}
+use Rattle.std.proofs.Common.{◌≡◌, ◌∙◌, refl, sym, ap, arith, ℕ, ◌≤◌, Bool, true, false, if◌then◌else◌, List, [], ◌∷◌, ◌++◌, map, length, Option, None, Some}
+use Rattle.std.specs.Prelude.{◌==◌, ◌||◌, is_some, option_map}
 use Rattle.hl_lexer.specs.declared.terminal.Terminal.{Terminal}
 use Rattle.hl_lexer.specs.declared.terminal.Terminal.TheVariants as terminals
 use Rattle.hl_lexer.specs.Numbers.{greatest_number}
-use Rattle.hl_parser.specs.Trees.{Tree, Trees, a_primary, a_unary, absent, an_init, at_of, more_trees, no_trees, present}
+use Rattle.hl_parser.specs.Trees.{Tree, Trees, a_primary, a_unary, absent, an_init, more_trees, no_trees, present}
 use Rattle.hl_meaning.specs.declared.ty.Kind.{Kind}
 use Rattle.hl_meaning.specs.declared.ty.Kind.TheVariants.{Bool as BoolKind, Int as IntKind, Uint as UintKind}
-use Rattle.hl_meaning.specs.Types.{Ty, scalar_type}
+use Rattle.hl_meaning.specs.Types.{scalar_type}
 use Rattle.hl_meaning.specs.WellFormed.{HoldWords, IsLiteralOf}
 use Rattle.hl_rules.specs.Constants.{constant_number}
 use Rattle.hl_rules.specs.DeclarationRules.{are_constant_inits, is_constant_init, is_minus, is_signed_or_truth, is_truth_word, leaves_among, leaves_of}
-use Rattle.hl_rules.specs.Declarations.{with_constant}
-use Rattle.hl_rules.specs.Elaboration.{init_words, leaf_word, leaf_words, negative, signed_or_truth, truth_word, word_count, word_in}
+use Rattle.hl_rules.specs.Elaboration.{init_words, leaf_word, leaf_words, negative, signed_or_truth, truth_word, word_in}
 use Rattle.hl_rules.specs.Expressions.{with_two}
 use Rattle.hl_rules.specs.Scopes.{Scope}
 use Rattle.hl_rules.specs.Source.{terminal_at}

@@ -1,12 +1,12 @@
 -- A constant whose initialiser breaks no rule has the words of its type.
-use Rattle.std.proofs.Common.{◌≡◌, ◌∙◌, refl, sym, ap, subst, arith, ℕ, Bool, true, false, not, if◌then◌else◌, List, [], ◌∷◌, ◌++◌, length, Option, None, Some}
+use Rattle.std.proofs.Common.{◌≡◌, ◌∙◌, refl, sym, ap, arith, ℕ, Bool, true, false, not, if◌then◌else◌, List, [], ◌∷◌, length, Option, None, Some}
 use Rattle.std.specs.Prelude.{◌==◌, ◌&&◌, ◌||◌, is_some}
 use Rattle.std.specs.List.{list_any}
 use Rattle.hl_parser.specs.Trees.{Tree, Trees, a_primary, a_unary, absent, an_init, at_of, more_trees, no_trees, present}
 use Rattle.hl_meaning.specs.declared.ty.Kind.{Kind}
 use Rattle.hl_meaning.specs.Types.{Ty, is_scalar}
 use Rattle.hl_rules.specs.Constants.{constant_number}
-use Rattle.hl_rules.specs.DeclarationRules.{are_constant_inits, is_constant_init, is_known, is_minus, is_other, is_signed_or_truth, leaves_among, leaves_of, rule_10}
+use Rattle.hl_rules.specs.DeclarationRules.{are_constant_inits, is_constant_init, is_known, is_minus, is_other, is_signed_or_truth, leaves_among}
 use Rattle.hl_rules.specs.Declarations.{constant_value, is_number_type, with_constant}
 use Rattle.hl_rules.specs.Elaboration.{init_words}
 use Rattle.hl_rules.specs.Parts.{a_brace_init, a_constant_init, site}

@@ -1,26 +1,21 @@
 -- Of items that break no rule one function is the entry, and it has threads.
-use Rattle.std.proofs.Common.{◌≡◌, ◌∙◌, refl, sym, ap, subst, ℕ, zero, suc, ◌+◌, Bool, true, false, if◌then◌else◌, not, List, [], ◌∷◌, ◌++◌, length, Option, None, Some, append_assoc}
-use Rattle.std.specs.Prelude.{◌&&◌, ◌||◌, bytes_eq, option_map, slice_get}
+use Rattle.std.proofs.Common.{◌≡◌, ◌∙◌, refl, sym, ap, ℕ, Bool, true, false, if◌then◌else◌, not, List, [], ◌∷◌, ◌++◌, Some, append_assoc}
+use Rattle.std.specs.Prelude.{◌&&◌, ◌||◌, bytes_eq, option_map}
 use Rattle.std.specs.List.{list_any}
 use Rattle.std.proofs.lemmas.List.{append-nil}
 use Rattle.std.proofs.lemmas.List.Folds.{list_any-append}
 use Rattle.hl_lexer.specs.Tokens.{Lexeme}
 use Rattle.hl_parser.specs.Trees.{Tree, Trees, a_buffer, a_constant, a_function, a_shared, a_struct, an_item, more_trees, no_trees}
 use Rattle.hl_meaning.specs.Programs.{FunctionDef}
-use Rattle.hl_meaning.specs.WellFormed.{AreThreads, IsEntry}
-use Rattle.hl_rules.specs.DeclarationRules.{rule_13}
-use Rattle.hl_rules.specs.Declarations.{after_item, at_params, function_info, with_function}
+use Rattle.hl_rules.specs.Declarations.{after_item, function_info, with_function}
 use Rattle.hl_rules.specs.Elaboration.{after_items, all_of_items, attribute_threads, both_lists, function_def, item_functions, item_threads}
-use Rattle.hl_rules.specs.Parts.{an_end, site}
 use Rattle.hl_rules.specs.Scopes.{FunctionInfo, Scope, is_function, spelled}
 use Rattle.hl_rules.specs.Sites.{is_entry, item_sites, items_sites}
-use Rattle.hl_rules.proofs.Free.{IsFree, free-first, free-left, free-right, not_broken}
-use Rattle.hl_rules.proofs.FunctionEntry.{IsFreeFunction, entry-kept, entry-threads, free-function}
-use Rattle.hl_rules.proofs.InputForms.{AreKnownParams}
-use Rattle.hl_rules.proofs.ItemForms.{AreKnownItems, IsOther, is_function-any, is_named, no-list, other-buffer, other-constant, other-shared, other-struct}
-use Rattle.hl_rules.proofs.Options.{IsMapped, IsOfTwo, mapped-there, not-both, not-false, same-text, some-same, two-there}
-use Rattle.hl_rules.proofs.ThreadForms.{HasThreads}
-use Rattle.hl_rules.proofs.TreeShapes.{AllTrees, IsItem, IsParam}
+use Rattle.hl_rules.proofs.Free.{IsFree, free-left, free-right, not_broken}
+use Rattle.hl_rules.proofs.FunctionEntry.{IsFreeFunction, free-function}
+use Rattle.hl_rules.proofs.ItemForms.{IsOther, is_function-any, is_named, no-list, other-buffer, other-constant, other-shared, other-struct}
+use Rattle.hl_rules.proofs.Options.{IsMapped, IsOfTwo, mapped-there, same-text, some-same, two-there}
+use Rattle.hl_rules.proofs.TreeShapes.{AllTrees, IsItem}
 
 pub free-item : (s : Scope) (first : Tree) (rest : Trees) → IsFree (items_sites s (more_trees first rest)) → IsFree (item_sites s first)
 free-item s first rest free = free-left (item_sites s first) (items_sites (after_item s first) rest) free

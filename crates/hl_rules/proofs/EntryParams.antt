@@ -1,6 +1,6 @@
 -- The parameters of an entry that breaks no rule are inputs, and no two have one semantic.
-use Rattle.std.proofs.Common.{◌≡◌, ◌∙◌, refl, sym, ap, subst, ℕ, suc, Bool, true, false, List, [], ◌∷◌, ◌++◌, map, length, Option, None, Some, append_assoc}
-use Rattle.std.specs.Prelude.{◌==◌, ◌||◌, not, IsTrue, ◌&&◌, slice_get, option_map, unwrap_or}
+use Rattle.std.proofs.Common.{◌≡◌, ◌∙◌, refl, sym, ap, subst, ℕ, suc, Bool, true, false, List, [], ◌∷◌, ◌++◌, map, length, Option, Some, append_assoc}
+use Rattle.std.specs.Prelude.{◌==◌, ◌||◌, not, ◌&&◌, slice_get, option_map, unwrap_or}
 use Rattle.std.specs.List.{All, list_any}
 use Rattle.std.proofs.lemmas.List.Elements.{All-cons, All-nil}
 use Rattle.hl_lexer.specs.Tokens.{Lexeme}
@@ -14,7 +14,7 @@ use Rattle.hl_meaning.specs.Types.{Ty, void_type}
 use Rattle.hl_meaning.specs.WellFormed.{HasSemanticIf, IsInput, semantic_number}
 use Rattle.hl_rules.specs.Constants.{declarator_type, named_type}
 use Rattle.hl_rules.specs.DeclarationRules.{has_semantic, is_same_semantic, is_semantic_among, param_semantic}
-use Rattle.hl_rules.specs.Declarations.{after_param, param_copying, param_type}
+use Rattle.hl_rules.specs.Declarations.{after_param, param_copying}
 use Rattle.hl_rules.specs.Elaboration.{declared_variable, param_variables, parameters_from}
 use Rattle.hl_rules.specs.Scopes.{Scope}
 use Rattle.hl_rules.specs.Sites.{and_tree, params_sites}

@@ -1,5 +1,5 @@
 -- A function that is the entry and breaks no rule keeps what an entry keeps.
-use Rattle.std.proofs.Common.{◌≡◌, ◌∙◌, refl, sym, ap, subst, ℕ, Bool, true, false, List, [], ◌∷◌, ◌++◌, length, Option, None, Some}
+use Rattle.std.proofs.Common.{◌≡◌, ◌∙◌, refl, sym, subst, ℕ, true, false, List, [], ◌∷◌, ◌++◌, Some}
 use Rattle.std.specs.Prelude.{◌&&◌, not}
 use Rattle.hl_lexer.specs.Tokens.{Lexeme}
 use Rattle.hl_parser.specs.Trees.{Tree, Trees, a_function, a_result, absent, at_of, no_trees, present}
@@ -8,7 +8,7 @@ use Rattle.hl_meaning.specs.Trees.{Stmts}
 use Rattle.hl_meaning.specs.Types.{Ty, void_type}
 use Rattle.hl_meaning.specs.WellFormed.{IsEntry}
 use Rattle.hl_rules.specs.Constants.{result_type}
-use Rattle.hl_rules.specs.DeclarationRules.{has_numthreads, is_no_result, rule_13, rule_14, rule_16}
+use Rattle.hl_rules.specs.DeclarationRules.{has_numthreads, is_no_result}
 use Rattle.hl_rules.specs.Declarations.{at_params, in_body}
 use Rattle.hl_rules.specs.Elaboration.{attribute_threads, body_code, body_variables, function_def, param_variables, parameters_from}
 use Rattle.hl_rules.specs.Parts.{Site, a_whole_function, site}

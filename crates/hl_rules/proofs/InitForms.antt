@@ -21,16 +21,18 @@ use Rattle.hl_rules.specs.Sites.{init_sites, leaf_sites, leaves_sites, value_sit
 use Rattle.hl_rules.specs.Statements.{init_code, leaf_codes, struct_def, struct_defs}
 use Rattle.hl_rules.specs.Values.{type_in}
 use Rattle.hl_rules.proofs.Becoming.{with_two-there}
-use Rattle.hl_rules.proofs.DeclaratorForms.{IsKnownAs, or-left, or-right}
+use Rattle.hl_rules.proofs.DeclaratorForms.{IsKnownAs}
 use Rattle.hl_rules.proofs.Fitting.{Fits}
 use Rattle.hl_rules.proofs.Free.{IsFree, free-first, free-left, free-right, not_broken}
 use Rattle.hl_rules.proofs.LayoutForms.{IsBelow, kinds_of-front, length-kinds_of}
+use Rattle.hl_rules.proofs.Options.{or-one, or-other}
 use Rattle.hl_rules.proofs.Shapes.{IsExpression}
 use Rattle.hl_rules.proofs.ScopeForms.{declared-there, names-fit}
+use Rattle.hl_rules.proofs.ShortTypes.{declared-result}
 use Rattle.hl_rules.proofs.Soundness.{IsSound}
 use Rattle.hl_rules.proofs.StructForms.{IsKnownType, IsTypeBelow, known_words, type_below, type_words-known, words_known, words_of-known}
 use Rattle.hl_rules.proofs.TreeShapes.{AreInits, IsInit}
-use Rattle.hl_rules.proofs.ValueForms.{ExpressionsAreDone, IsValueIn, conversion-in, result-declared, scalar-in, scalar-result, use-done}
+use Rattle.hl_rules.proofs.ValueForms.{ExpressionsBecome, IsInType, conversion-in, scalar-in, scalar-result, use-done}
 
 -- ---- the leaves of an initialiser
 
@@ -65,7 +67,7 @@ pub record AreLeafValues (s : Scope) (kinds : List Kind) (leaves : List Tree) : 
   pub types : types_of to ≡ map scalar_type kinds
   pub made : (env : places.Scope) → Fits env s → AreExprs env to
 
-leaf-made : (s : Scope) (kind : Kind) (kinds : List Kind) (leaf : Tree) (leaves : List Tree) → IsValueIn s (scalar_type kind) leaf → AreLeafValues s kinds leaves → AreLeafValues s (kind ∷ kinds) (leaf ∷ leaves)
+leaf-made : (s : Scope) (kind : Kind) (kinds : List Kind) (leaf : Tree) (leaves : List Tree) → IsInType s (scalar_type kind) leaf → AreLeafValues s kinds leaves → AreLeafValues s (kind ∷ kinds) (leaf ∷ leaves)
 leaf-made s kind kinds leaf leaves first rest = record {
   to = more_exprs first.to rest.to;
   is = with_two-there (λ a b. Some (more_exprs a b)) (value_in s (scalar_type kind) leaf) (leaf_codes s kinds leaves) first.to rest.to first.is rest.is;
@@ -73,16 +75,16 @@ leaf-made s kind kinds leaf leaves first rest = record {
   made = λ env fits. (first.made env fits (scalar-result env.structs kind), rest.made env fits);
 }
 
-pub leaf-values : ExpressionsAreDone → (s : Scope) → IsSound s → (kinds : List Kind) (leaves : List Tree) → length leaves ≡ length kinds → AreFreeLeaves s leaves → list_any (λ leaf. is_known (λ x. not (is_scalar x)) (type_in s leaf)) leaves ≡ false → AreLeafValues s kinds leaves
+pub leaf-values : ExpressionsBecome → (s : Scope) → IsSound s → (kinds : List Kind) (leaves : List Tree) → length leaves ≡ length kinds → AreFreeLeaves s leaves → list_any (λ leaf. is_known (λ x. not (is_scalar x)) (type_in s leaf)) leaves ≡ false → AreLeafValues s kinds leaves
 leaf-values claim s sound [] [] e free scalars = record { to = no_exprs; is = refl; types = refl; made = λ env fits. tt }
 leaf-values claim s sound [] (leaf ∷ leaves) e free scalars = absurd (omega (arith, e))
 leaf-values claim s sound (kind ∷ kinds) [] e free scalars = absurd (omega (arith, e))
 leaf-values claim s sound (kind ∷ kinds) (leaf ∷ leaves) e free scalars =
     leaf-made s kind kinds leaf leaves
     (scalar-in s leaf kind (use-done claim s leaf sound free.0.0 free.0.1)
-    (or-left (is_known (λ x. not (is_scalar x)) (type_in s leaf)) (list_any (λ x. is_known (λ y. not (is_scalar y)) (type_in s x)) leaves) scalars))
+    (or-one (is_known (λ x. not (is_scalar x)) (type_in s leaf)) (list_any (λ x. is_known (λ y. not (is_scalar y)) (type_in s x)) leaves) scalars))
     (leaf-values claim s sound kinds leaves (omega arith) free.1
-    (or-right (is_known (λ x. not (is_scalar x)) (type_in s leaf)) (list_any (λ x. is_known (λ y. not (is_scalar y)) (type_in s x)) leaves) scalars))
+    (or-other (is_known (λ x. not (is_scalar x)) (type_in s leaf)) (list_any (λ x. is_known (λ y. not (is_scalar y)) (type_in s x)) leaves) scalars))
 
 -- ---- what is built
 
@@ -145,7 +147,7 @@ pub record IsInitValue (s : Scope) (ty : Ty) (code : Option Expr) : Type 0 where
   pub type : type_of to ≡ ty
   pub made : (env : places.Scope) → Fits env s → IsExpr env to
 
-brace-made : ExpressionsAreDone → (s : Scope) → IsSound s → (ty : Option Ty) (known : IsKnownAs s ty) (at : ℕ) (parts : Trees) → AreInits s.tokens parts → IsFree (init_sites s ty (an_init at absent parts)) → IsInitValue s known.type (init_code s known.type (an_init at absent parts))
+brace-made : ExpressionsBecome → (s : Scope) → IsSound s → (ty : Option Ty) (known : IsKnownAs s ty) (at : ℕ) (parts : Trees) → AreInits s.tokens parts → IsFree (init_sites s ty (an_init at absent parts)) → IsInitValue s known.type (init_code s known.type (an_init at absent parts))
 brace-made claim s sound ty known at parts shape free = given (leaf-values claim s sound (kinds_of (struct_defs s.structs) known.type) (leaves_among parts) counted (leaves-free s parts shape (free-left (leaves_sites s parts) (site s (a_brace_init (an_init at absent parts) ty) ∷ []) free)) scalars)
   where
     obeyed : is_other (length (leaves_among parts)) (words_if s.structs ty) || list_any (λ leaf. is_known (λ x. not (is_scalar x)) (type_in s leaf)) (leaves_among parts) ≡ false
@@ -157,11 +159,11 @@ brace-made claim s sound ty known at parts shape free = given (leaf-values claim
     counted =
         same-count (length (leaves_among parts)) (words_in (known_words s.structs) known.type)
         (sym (ap (λ o. is_other (length (leaves_among parts)) (words_if s.structs o)) known.is ∙ ap (λ o. is_other (length (leaves_among parts)) o) (type_words-known s.structs known.type sound.structs (below-known s known.type known.known)))
-        ∙ or-left (is_other (length (leaves_among parts)) (words_if s.structs ty)) (list_any (λ leaf. is_known (λ x. not (is_scalar x)) (type_in s leaf)) (leaves_among parts)) obeyed)
+        ∙ or-one (is_other (length (leaves_among parts)) (words_if s.structs ty)) (list_any (λ leaf. is_known (λ x. not (is_scalar x)) (type_in s leaf)) (leaves_among parts)) obeyed)
         ∙ sym (length-kinds s known.type sound known.known)
 
     scalars : list_any (λ leaf. is_known (λ x. not (is_scalar x)) (type_in s leaf)) (leaves_among parts) ≡ false
-    scalars = or-right (is_other (length (leaves_among parts)) (words_if s.structs ty)) (list_any (λ leaf. is_known (λ x. not (is_scalar x)) (type_in s leaf)) (leaves_among parts)) obeyed
+    scalars = or-other (is_other (length (leaves_among parts)) (words_if s.structs ty)) (list_any (λ leaf. is_known (λ x. not (is_scalar x)) (type_in s leaf)) (leaves_among parts)) obeyed
 
     given : AreLeafValues s (kinds_of (struct_defs s.structs) known.type) (leaves_among parts) → IsInitValue s known.type (init_code s known.type (an_init at absent parts))
     given leaves = record {
@@ -169,7 +171,7 @@ brace-made claim s sound ty known at parts shape free = given (leaf-values claim
       is = ap (λ o. option_map (λ l. an_expr known.type at (build_form l)) o) leaves.is;
       type = refl;
       made = λ env fits. (
-        result-declared env.structs known.type (declared-there env s known.type sound (names-fit env s fits) known.known),
+        declared-result env.structs known.type (declared-there env s known.type sound (names-fit env s fits) known.known),
         (
           leaves.made env fits,
           subst (λ l. Builds env.structs known.type l)
@@ -179,7 +181,7 @@ brace-made claim s sound ty known at parts shape free = given (leaf-values claim
       );
     }
 
-pub init-made : ExpressionsAreDone → (s : Scope) → IsSound s → (ty : Option Ty) (known : IsKnownAs s ty) (init : Tree) → IsInit s.tokens init → IsFree (init_sites s ty init) → IsInitValue s known.type (init_code s known.type init)
+pub init-made : ExpressionsBecome → (s : Scope) → IsSound s → (ty : Option Ty) (known : IsKnownAs s ty) (init : Tree) → IsInit s.tokens init → IsFree (init_sites s ty init) → IsInitValue s known.type (init_code s known.type init)
 init-made claim s sound ty known (an_init at (present value) parts) shape free =
     let used = use-done claim s value sound shape.1 (free-left (value_sites s value) (site s (a_conversion (type_in s value) ty (at_of value)) ∷ []) free) in
     let made = conversion-in s value ty known.type [] used known.is (known-not_void (known_words s.structs) known.type known.known) (free-right (value_sites s value) (site s (a_conversion (type_in s value) ty (at_of value)) ∷ []) free) in
@@ -187,7 +189,7 @@ init-made claim s sound ty known (an_init at (present value) parts) shape free =
       to = made.to;
       is = made.is;
       type = made.type;
-      made = λ env fits. made.made env fits (result-declared env.structs known.type (declared-there env s known.type sound (names-fit env s fits) known.known));
+      made = λ env fits. made.made env fits (declared-result env.structs known.type (declared-there env s known.type sound (names-fit env s fits) known.known));
     }
 init-made claim s sound ty known (an_init at absent parts) shape free = brace-made claim s sound ty known at parts shape.1 free
 init-made claim s sound ty known other shape free = absurd shape

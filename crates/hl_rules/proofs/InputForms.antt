@@ -1,30 +1,21 @@
 -- The parameters of an entry that breaks no rule are inputs.
-use Rattle.std.proofs.Common.{◌≡◌, ◌∙◌, refl, sym, ap, subst, ℕ, suc, ◌+◌, ◌≤◌, Bool, true, false, not, if◌then◌else◌, nat_le, List, [], ◌∷◌, ◌++◌, map, length, Option, None, Some, append_assoc}
-use Rattle.std.specs.Prelude.{◌==◌, ◌&&◌, ◌||◌, IsTrue, is_some, option_map, slice_get, unwrap_or}
-use Rattle.std.specs.List.{All, list_any}
-use Rattle.std.proofs.lemmas.List.Elements.{All-cons, All-nil}
-use Rattle.hl_lexer.specs.Tokens.{Lexeme}
+use Rattle.std.proofs.Common.{◌≡◌, ◌∙◌, refl, ap, subst, ℕ, Bool, true, false, not, nat_le, [], ◌++◌, Option, None, Some}
+use Rattle.std.specs.Prelude.{◌||◌, unwrap_or}
 use Rattle.hl_parser.specs.Trees.{Maybe, Tree, Trees, a_param, absent, at_of, more_trees, no_trees, present}
 use Rattle.hl_meaning.specs.declared.program.Copying.{Copying}
 use Rattle.hl_meaning.specs.declared.program.Copying.TheVariants.{CopyBoth, CopyIn, CopyOut}
-use Rattle.hl_meaning.specs.declared.program.Parameter.{Parameter}
 use Rattle.hl_meaning.specs.declared.program.Semantic.{Semantic}
 use Rattle.hl_meaning.specs.declared.program.Semantic.TheVariants.{DispatchThreadId, GroupId, GroupIndex, GroupThreadId}
-use Rattle.hl_meaning.specs.Places.{is_without_repeats, variable_type}
-use Rattle.hl_meaning.specs.Programs.{Variable}
-use Rattle.hl_meaning.specs.Types.{Ty, component_count, is_numeric, void_type}
-use Rattle.hl_meaning.specs.WellFormed.{HasSemantic, HasSemanticIf, IsInput, semantic_number}
-use Rattle.hl_rules.specs.DeclarationRules.{has_semantic, is_copied_in, is_input, is_same_semantic, is_semantic_among, is_semantic_type, param_name, param_semantic, rule_17, semantic_if, semantic_named}
-use Rattle.hl_rules.specs.Constants.{declarator_type, named_type}
+use Rattle.hl_meaning.specs.Types.{Ty, component_count, is_numeric}
+use Rattle.hl_meaning.specs.WellFormed.{HasSemantic}
+use Rattle.hl_rules.specs.DeclarationRules.{has_semantic, is_copied_in, is_input, is_semantic_among, is_semantic_type, param_name, param_semantic, rule_17, semantic_if, semantic_named}
 use Rattle.hl_rules.specs.Declarations.{after_param, copying_of, direction_copying, param_copying, param_type}
-use Rattle.hl_rules.specs.Elaboration.{param_variables, parameters_from}
 use Rattle.hl_rules.specs.Parts.{an_entry_param, site}
 use Rattle.hl_rules.specs.Scopes.{Scope}
 use Rattle.hl_rules.specs.Sites.{and_tree, entry_sites, param_sites, params_sites}
 use Rattle.hl_rules.specs.Source.{terminal_at, text_at}
-use Rattle.hl_rules.proofs.Free.{IsFree, free-first, free-left, free-rest, free-right, not_broken}
+use Rattle.hl_rules.proofs.Free.{IsFree, free-first, free-left, free-right, not_broken}
 use Rattle.hl_rules.proofs.Options.{and-one, and-other, no-more, not-false, not-true, or-one, or-other}
-use Rattle.hl_rules.proofs.TreeShapes.{AllTrees, IsParam}
 
 -- each parameter has a type
 abbrev pub AreKnownParams : Scope → Trees → Type 0

@@ -1,5 +1,5 @@
 -- Jumps become jumps of the program.
-use Rattle.std.proofs.Common.{◌≡◌, ◌∙◌, ◌⊎◌, inl, inr, refl, sym, ap, ℕ, Bool, true, false, List, [], ◌∷◌, ◌++◌, None, Some}
+use Rattle.std.proofs.Common.{◌≡◌, ◌∙◌, ◌⊎◌, inl, inr, refl, sym, ap, ℕ, true, false, List, [], ◌∷◌, ◌++◌, None, Some}
 use Rattle.std.specs.Prelude.{IsTrue, not, option_and_then, option_map, unwrap_or}
 use Rattle.hl_lexer.specs.declared.terminal.Terminal.{Terminal}
 use Rattle.hl_lexer.specs.declared.terminal.Terminal.TheVariants as terminals
@@ -19,12 +19,14 @@ use Rattle.hl_rules.specs.Values.{type_in}
 use Rattle.hl_rules.proofs.DeclaratorForms.{IsKnownResult}
 use Rattle.hl_rules.proofs.Fitting.{Fits}
 use Rattle.hl_rules.proofs.Free.{IsFree, free-first, free-left, free-rest, free-right, not_broken}
+use Rattle.hl_rules.proofs.Options.{not-false}
 use Rattle.hl_rules.proofs.Shapes.{IsExpression}
 use Rattle.hl_rules.proofs.ScopeForms.{declared-there, names-fit}
+use Rattle.hl_rules.proofs.ShortTypes.{declared-result}
 use Rattle.hl_rules.proofs.Soundness.{IsSound}
 use Rattle.hl_rules.proofs.StatementParts.{IsMade, one-made}
 use Rattle.hl_rules.proofs.StructForms.{IsKnownType, known_words}
-use Rattle.hl_rules.proofs.ValueForms.{ExpressionsAreDone, IsValueIn, conversion-in, result-declared, use-done}
+use Rattle.hl_rules.proofs.ValueForms.{ExpressionsBecome, IsInType, conversion-in, use-done}
 
 -- the body of a function, whose result is known
 pub record IsInBody (s : Scope) : Type 0 where
@@ -50,17 +52,17 @@ same-result s ty env e fits = ap (λ o. unwrap_or o ty) (sym e ∙ fits.result)
 
 -- ---- `return` with a value
 
-return-value : (s : Scope) (e : Tree) → IsSound s → (result : IsKnownResult s s.result) → is_void result.type ≡ false → IsValueIn s result.type e → IsMade s [] (return_code s e) true
+return-value : (s : Scope) (e : Tree) → IsSound s → (result : IsKnownResult s s.result) → is_void result.type ≡ false → IsInType s result.type e → IsMade s [] (return_code s e) true
 return-value s e sound result not_void made =
     one-made s (return_stmt (Some made.to)) (return_code s e)
     (ap (λ o. option_and_then (λ ty. option_map (λ v. one_stmt (return_stmt (Some v))) (value_in s ty e)) o) result.is ∙ ap (λ o. option_map (λ v. one_stmt (return_stmt (Some v))) o) made.is)
     (λ env fits. (
-      made.made env fits (result-declared env.structs result.type (declared-there env s result.type sound (names-fit env s fits) (known-result (known_words s.structs) result.type result.known not_void))),
+      made.made env fits (declared-result env.structs result.type (declared-there env s result.type sound (names-fit env s fits) (known-result (known_words s.structs) result.type result.known not_void))),
       made.type ∙ same-result s result.type env result.is fits,
       ap not (ap is_void (sym (same-result s result.type env result.is fits)) ∙ not_void),
     ))
 
-pub return-made : ExpressionsAreDone → (s : Scope) → IsInBody s → (at : ℕ) (e : Tree) → IsExpression s.tokens e →
+pub return-made : ExpressionsBecome → (s : Scope) → IsInBody s → (at : ℕ) (e : Tree) → IsExpression s.tokens e →
     IsFree (value_sites s e ++ (site s (a_return at (present e)) ∷ site s (a_conversion (type_in s e) s.result (at_of e)) ∷ [])) → IsMade s [] (return_code s e) true
 return-made claim s body at e shape free =
     let behind = free-right (value_sites s e) (site s (a_return at (present e)) ∷ site s (a_conversion (type_in s e) s.result (at_of e)) ∷ []) free in
@@ -72,10 +74,6 @@ return-made claim s body at e shape free =
     (free-rest (site s (a_return at (present e))) (site s (a_conversion (type_in s e) s.result (at_of e)) ∷ []) behind))
 
 -- ---- jumps without a value
-
-not-false : (b : Bool) → not b ≡ false → b ≡ true
-not-false true e = refl
-not-false false e = absurd (cc e)
 
 in_loop-there : (s : Scope) (at : ℕ) → IsFree (site s (a_loop_jump at) ∷ []) → IsTrue s.in_loop
 in_loop-there s at free = not-false s.in_loop (not_broken (not s.in_loop) at (free-first (site s (a_loop_jump at)) [] free).obeys_19)

@@ -1,8 +1,8 @@
 -- Options that are there, and tests that pass.
-use Rattle.std.proofs.Common.{◌≡◌, refl, sym, ap, arith, ℕ, ◌≤◌, Bool, true, false, not, nat_le, List, Option, None, Some}
-use Rattle.std.specs.Prelude.{◌&&◌, ◌||◌, bytes_eq, option_and_then, option_map, unwrap_or}
+use Rattle.std.proofs.Common.{◌≡◌, refl, ap, arith, ℕ, ◌≤◌, Bool, true, false, not, nat_le, List, Option, None, Some}
+use Rattle.std.specs.Prelude.{◌&&◌, ◌||◌, bytes_eq, option_map, unwrap_or}
 use Rattle.std.proofs.lemmas.Slice.Eq.{bytes_eq-Decides}
-use Rattle.hl_rules.specs.Expressions.{with_three, with_two}
+use Rattle.hl_rules.specs.Expressions.{with_two}
 
 -- ---- tests
 

@@ -1,6 +1,6 @@
 -- Items that break no rule have an entry, with threads.
-use Rattle.std.proofs.Common.{◌≡◌, ◌∙◌, refl, sym, ap, subst, ℕ, zero, suc, ◌+◌, ◌<◌, Bool, true, false, if◌then◌else◌, not, List, [], ◌∷◌, ◌++◌, length, Option, None, Some, append_assoc, arith}
-use Rattle.std.specs.Prelude.{◌&&◌, ◌||◌, bytes_eq, cond, nat_lt, option_map, position, slice_get}
+use Rattle.std.proofs.Common.{◌≡◌, ◌∙◌, refl, sym, ap, ℕ, suc, ◌+◌, ◌<◌, Bool, true, false, if◌then◌else◌, not, List, [], ◌∷◌, ◌++◌, length, None, Some, append_assoc, arith}
+use Rattle.std.specs.Prelude.{◌||◌, bytes_eq, cond, nat_lt, option_map, position, slice_get}
 use Rattle.std.specs.List.{list_any, position_or_len}
 use Rattle.std.proofs.lemmas.List.{length-append}
 use Rattle.std.proofs.lemmas.List.Folds.{list_any-append}
@@ -8,12 +8,11 @@ use Rattle.hl_lexer.specs.Tokens.{Lexeme}
 use Rattle.hl_parser.specs.Trees.{Tree, Trees, a_buffer, a_constant, a_function, a_shared, a_struct, an_item, more_trees, no_trees}
 use Rattle.hl_meaning.specs.Programs.{FunctionDef}
 use Rattle.hl_meaning.specs.WellFormed.{AreThreads, IsEntry}
-use Rattle.hl_rules.specs.DeclarationRules.{rule_13}
-use Rattle.hl_rules.specs.Declarations.{after_item, at_params, function_info, with_function}
-use Rattle.hl_rules.specs.Elaboration.{after_items, all_of_items, attribute_threads, both_lists, entry_number, function_def, item_functions, item_threads}
+use Rattle.hl_rules.specs.Declarations.{after_item, function_info, with_function}
+use Rattle.hl_rules.specs.Elaboration.{after_items, all_of_items, attribute_threads, both_lists, entry_number, item_functions, item_threads}
 use Rattle.hl_rules.specs.Parts.{an_end, site}
 use Rattle.hl_rules.specs.Scopes.{FunctionInfo, Scope, is_function, spelled}
-use Rattle.hl_rules.specs.Sites.{is_entry, item_sites, items_sites}
+use Rattle.hl_rules.specs.Sites.{items_sites}
 use Rattle.hl_rules.proofs.EntryForms.{IsMadeFunction, free-item, free-items, function-made, functions-behind, is-entry, no-threads, not-entry, other-function, other-made, other-threads}
 use Rattle.hl_rules.proofs.Free.{IsFree, free-first, not_broken}
 use Rattle.hl_rules.proofs.FunctionEntry.{IsFreeFunction, entry-kept, entry-threads, free-function}

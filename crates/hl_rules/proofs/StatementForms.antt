@@ -24,7 +24,7 @@ use Rattle.hl_rules.proofs.StartForms.{condition-made, condition_if-made, run-ma
 use Rattle.hl_rules.proofs.StatementParts.{IsMade, IsMadeIf, block-made, do-made, for-made, if-made, made-joined, no-made, none-made, one-made, some-made, while-made}
 use Rattle.hl_rules.proofs.StructForms.{IsKnownType, known_words}
 use Rattle.hl_rules.proofs.TreeShapes.{AreStatements, IfTree, IsFirstPart, IsLocal, IsPart, IsStatement, IsStatementIf}
-use Rattle.hl_rules.proofs.ValueForms.{ExpressionsAreDone}
+use Rattle.hl_rules.proofs.ValueForms.{ExpressionsBecome}
 use Rattle.hl_rules.proofs.VariableCounts.{IsBehind, length-statement}
 
 -- ---- bodies
@@ -59,7 +59,7 @@ body-behind s t variables body declares = record { sound = declares.sound; resul
 
 -- ---- locals
 
-local-made : ExpressionsAreDone → (s : Scope) → IsSound s → (at : ℕ) (constant : Option ℕ) (type : Tree) (starts : Trees) → IsLocal s.tokens (a_local at constant type starts) → IsFree (type_sites s type ++ starts_sites s (named_type s type) (is_some constant) starts) →
+local-made : ExpressionsBecome → (s : Scope) → IsSound s → (at : ℕ) (constant : Option ℕ) (type : Tree) (starts : Trees) → IsLocal s.tokens (a_local at constant type starts) → IsFree (type_sites s type ++ starts_sites s (named_type s type) (is_some constant) starts) →
     IsMade s (starts_variables s (named_type s type) (is_some constant) starts) (starts_code s (named_type s type) (is_some constant) starts) false
 local-made claim s sound at constant type starts shape free =
     starts-made claim s sound (named_type s type) (named-known s sound type shape.0 (free-left (type_sites s type) (starts_sites s (named_type s type) (is_some constant) starts) free)) (is_some constant) starts shape.2
@@ -73,10 +73,10 @@ local-declares s sound at constant type starts shape free =
 
 -- ---- the first part of a `for`
 
-first-made : ExpressionsAreDone → (s : Scope) → IsSound s → (first : Maybe) → IfTree (IsFirstPart s.tokens) first → IsFree (first_if s first) → IsMade s (first_variables s first) (first_code_if s first) false
+first-made : ExpressionsBecome → (s : Scope) → IsSound s → (first : Maybe) → IfTree (IsFirstPart s.tokens) first → IsFree (first_if s first) → IsMade s (first_variables s first) (first_code_if s first) false
 first-made claim s sound absent shape free = none-made s
 first-made claim s sound (present (a_local at constant type starts)) shape free = local-made claim s sound at constant type starts shape free
-first-made claim s sound (present other) shape free = run-made s other (claim s other sound shape free)
+first-made claim s sound (present other) shape free = run-made s other (claim s other sound.known shape free)
 
 first-declares : (s : Scope) → IsSound s → (first : Maybe) → IfTree (IsFirstPart s.tokens) first → IsFree (first_if (opened s) first) → IsDeclaring (opened s) (after_first s first) (first_variables (opened s) first)
 first-declares s sound absent shape free = declaring-none (opened s) (sound-opened s sound)
@@ -108,7 +108,7 @@ statement-declares s sound other shape free types = absurd shape
 
 mutual
   -- what a statement holds
-  pub part-made : ExpressionsAreDone → (s : Scope) → IsInBody s → (tree : Tree) → IsPart s.tokens tree → IsFree (statement_sites s tree) → IsMade s (statement_variables s tree) (statement_code s tree) (always_returns s.tokens tree)
+  pub part-made : ExpressionsBecome → (s : Scope) → IsInBody s → (tree : Tree) → IsPart s.tokens tree → IsFree (statement_sites s tree) → IsMade s (statement_variables s tree) (statement_code s tree) (always_returns s.tokens tree)
   part-made claim s body (a_block at statements) shape free =
       block-made s (statements_variables (opened s) statements) (statements_code (opened s) statements) (one_returns s.tokens statements)
       (statements-made claim (opened s) (body-opened s body) statements shape free)
@@ -153,18 +153,18 @@ mutual
   part-made claim s body (a_jump at (present value)) shape free =
       subst (λ r. IsMade s [] (return_code s value) r) (ap is_return_word (sym shape.0)) (return-made claim s body at value shape.1 free)
   part-made claim s body (a_stmt at part) shape free = absurd shape
-  part-made claim s body other shape free = run-made s other (claim s other body.sound shape free)
+  part-made claim s body other shape free = run-made s other (claim s other body.sound.known shape free)
 
-  pub statement-made : ExpressionsAreDone → (s : Scope) → IsInBody s → (tree : Tree) → IsStatement s.tokens tree → IsFree (statement_sites s tree) → IsMade s (statement_variables s tree) (statement_code s tree) (always_returns s.tokens tree)
+  pub statement-made : ExpressionsBecome → (s : Scope) → IsInBody s → (tree : Tree) → IsStatement s.tokens tree → IsFree (statement_sites s tree) → IsMade s (statement_variables s tree) (statement_code s tree) (always_returns s.tokens tree)
   statement-made claim s body (a_stmt at absent) shape free = one-made s (block_stmt no_stmts) (Some (one_stmt (block_stmt no_stmts))) refl (λ env fits. tt)
   statement-made claim s body (a_stmt at (present part)) shape free = part-made claim s body part shape free
   statement-made claim s body other shape free = absurd shape
 
-  pub if_there-made : ExpressionsAreDone → (s : Scope) → IsInBody s → (part : Maybe) → IsStatementIf s.tokens part → IsFree (statement_if s part) → IsMadeIf s (variables_if s part) (statement_code_if s part) (returns_if s.tokens part)
+  pub if_there-made : ExpressionsBecome → (s : Scope) → IsInBody s → (part : Maybe) → IsStatementIf s.tokens part → IsFree (statement_if s part) → IsMadeIf s (variables_if s part) (statement_code_if s part) (returns_if s.tokens part)
   if_there-made claim s body absent shape free = no-made s
   if_there-made claim s body (present tree) shape free = some-made s (statement_variables s tree) (statement_code s tree) (always_returns s.tokens tree) (statement-made claim s body tree shape free)
 
-  pub statements-made : ExpressionsAreDone → (s : Scope) → IsInBody s → (trees : Trees) → AreStatements s.tokens trees → IsFree (statements_sites s trees) → IsMade s (statements_variables s trees) (statements_code s trees) (one_returns s.tokens trees)
+  pub statements-made : ExpressionsBecome → (s : Scope) → IsInBody s → (trees : Trees) → AreStatements s.tokens trees → IsFree (statements_sites s trees) → IsMade s (statements_variables s trees) (statements_code s trees) (one_returns s.tokens trees)
   statements-made claim s body no_trees shape free = none-made s
   statements-made claim s body (more_trees first rest) shape free =
       let t = after_statement s first in

@@ -1,9 +1,9 @@
 -- Structs that break no rule have members of known types, and words.
-use Rattle.std.proofs.Common.{◌≡◌, ◌∙◌, refl, sym, ap, subst, ℕ, suc, ◌+◌, ◌<◌, ◌≤◌, Bool, true, false, nat_lt, List, [], ◌∷◌, ◌++◌, length, Option, None, Some, length-append, arith}
+use Rattle.std.proofs.Common.{◌≡◌, ◌∙◌, refl, sym, ap, subst, ℕ, ◌+◌, ◌<◌, ◌≤◌, false, nat_lt, List, [], ◌∷◌, ◌++◌, length, Option, Some, length-append, arith}
 use Rattle.std.specs.Prelude.{IsTrue, option_and_then, option_map, unwrap_or}
 use Rattle.std.proofs.lemmas.List.{length-map}
 use Rattle.hl_lexer.specs.Tokens.{Lexeme}
-use Rattle.hl_parser.specs.Trees.{Tree, Trees, a_member, at_of, more_trees, no_trees}
+use Rattle.hl_parser.specs.Trees.{Trees, a_member, at_of, more_trees, no_trees}
 use Rattle.hl_meaning.specs.Layout.{words_in}
 use Rattle.hl_meaning.specs.Types.{Ty, void_type}
 use Rattle.hl_meaning.specs.WellFormed.{most_words}
@@ -11,13 +11,13 @@ use Rattle.hl_rules.specs.Constants.{declarator_type, named_type}
 use Rattle.hl_rules.specs.DeclarationRules.{is_more}
 use Rattle.hl_rules.specs.Declarations.{declarators_info, member_info, members_info, struct_info}
 use Rattle.hl_rules.specs.Parts.{a_global_name, a_member_name, a_whole_struct, site}
-use Rattle.hl_rules.specs.Scopes.{MemberInfo, Scope, StructInfo, members_words, spelled, type_words, words_if}
+use Rattle.hl_rules.specs.Scopes.{MemberInfo, Scope, StructInfo, members_words, spelled, words_if}
 use Rattle.hl_rules.specs.Sites.{declarator_sites, declarators_sites, members_sites, type_sites}
 use Rattle.hl_rules.proofs.DeclaratorForms.{IsKnownAs, declarator-known, named-known}
 use Rattle.hl_rules.proofs.Free.{IsFree, free-first, free-left, free-rest, free-right, not_broken}
 use Rattle.hl_rules.proofs.Soundness.{IsSound}
-use Rattle.hl_rules.proofs.StructForms.{AreKnownMembers, AreKnownStructs, IsKnownMember, IsKnownStruct, IsTypeBelow, info_words, known_words, type_below, type_words-known, words_known}
-use Rattle.hl_rules.proofs.TreeShapes.{AllTrees, AreDeclarators, IsDeclarator, IsMember, are_some}
+use Rattle.hl_rules.proofs.StructForms.{AreKnownMembers, AreKnownStructs, IsKnownStruct, IsTypeBelow, info_words, known_words, type_below, type_words-known, words_known}
+use Rattle.hl_rules.proofs.TreeShapes.{AllTrees, IsDeclarator, IsMember, are_some}
 
 -- ---- members
 

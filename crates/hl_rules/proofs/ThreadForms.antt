@@ -1,7 +1,7 @@
 -- The threads of an entry that breaks no rule.
-use Rattle.std.proofs.Common.{◌≡◌, refl, sym, ap, subst, ℕ, ◌≤◌, ◌*◌, Bool, true, false, if◌then◌else◌, nat_le, List, [], ◌∷◌, ◌++◌, Option, None, Some}
+use Rattle.std.proofs.Common.{◌≡◌, refl, ℕ, ◌≤◌, ◌*◌, Bool, true, false, if◌then◌else◌, nat_le, List, [], ◌∷◌, Option, None, Some}
 use Rattle.std.specs.Prelude.{◌&&◌, ◌||◌, not}
-use Rattle.hl_parser.specs.Trees.{Tree, Trees, an_attribute, more_trees, no_trees}
+use Rattle.hl_parser.specs.Trees.{Trees, an_attribute, more_trees, no_trees}
 use Rattle.hl_meaning.specs.WellFormed.{AreThreads}
 use Rattle.hl_rules.specs.Constants.{constant_number}
 use Rattle.hl_rules.specs.DeclarationRules.{are_threads, has_numthreads, have_threads, is_from_one_to}

@@ -26,7 +26,7 @@ use Rattle.hl_rules.proofs.Options.{some-same}
 use Rattle.hl_rules.proofs.ParamForms.{AreTypedParams}
 use Rattle.hl_rules.proofs.StructForms.{IsKnownType, known_words}
 use Rattle.hl_rules.proofs.TreeShapes.{AllTrees, IsParam}
-use Rattle.hl_rules.proofs.ValueForms.{result-declared}
+use Rattle.hl_rules.proofs.ShortTypes.{declared-result}
 
 -- the parameters with their types
 abbrev pub passed_of : (s : Scope) (params : Trees) → AreTypedParams s params → List Param
@@ -88,7 +88,7 @@ function-known s result name params typed known = record {
 
 result-kept : (structs : List StructDef) (s : Scope) (ty : Ty) → ((own : Ty) → IsKnownType (known_words s.structs) own → IsDeclared structs own) → (ty ≡ void_type) ⊎ IsKnownType (known_words s.structs) ty → IsResult structs ty
 result-kept structs s ty declared (inl e) = subst (λ t. IsResult structs t) (sym e) tt
-result-kept structs s ty declared (inr known) = result-declared structs ty (declared ty known)
+result-kept structs s ty declared (inr known) = declared-result structs ty (declared ty known)
 
 pub known-result : (structs : List StructDef) (s : Scope) (ty : Option Ty) (known : IsKnownResult s ty) → ((own : Ty) → IsKnownType (known_words s.structs) own → IsDeclared structs own) → IsResult structs known.type
 known-result structs s ty known declared = result-kept structs s known.type declared known.known

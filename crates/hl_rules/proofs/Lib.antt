@@ -63,3 +63,4 @@ pub mod ParamForms
 pub mod CalleeForms
 pub mod Walking
 pub mod WriteForms
+pub mod ProgramScopes

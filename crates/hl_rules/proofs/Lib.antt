@@ -61,5 +61,8 @@ pub mod TreeShapes
 pub mod TypeLemmas
 pub mod ValueForms
 pub mod VariableCounts
+pub mod ParamForms
+pub mod CalleeForms
 pub mod Walking
 pub mod WriteForms
+pub mod ProgramScopes

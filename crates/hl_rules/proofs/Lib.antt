@@ -5,6 +5,7 @@ pub mod BinaryForms
 pub mod BodyFitting
 pub mod BodyForms
 pub mod BuildForms
+pub mod CalleeForms
 pub mod ChoiceForms
 pub mod ConstantForms
 pub mod ConstantItems
@@ -32,11 +33,13 @@ pub mod LocalForms
 pub mod Marks
 pub mod Noting
 pub mod Options
+pub mod ParamForms
 pub mod PathSteps
 pub mod Paths
 pub mod PlaceForms
 pub mod Productions
 pub mod ProgramEntry
+pub mod ProgramScopes
 pub mod Relations
 pub mod ResourceForms
 pub mod ScopeForms
@@ -61,8 +64,5 @@ pub mod TreeShapes
 pub mod TypeLemmas
 pub mod ValueForms
 pub mod VariableCounts
-pub mod ParamForms
-pub mod CalleeForms
 pub mod Walking
 pub mod WriteForms
-pub mod ProgramScopes

@@ -1,30 +1,29 @@
 -- The body of a function that breaks no rule, and that it stands in the environment of the program.
-use Rattle.std.proofs.Common.{◌≡◌, ◌∙◌, ◌⊎◌, inl, inr, refl, sym, ap, subst, ℕ, ◌+◌, Bool, true, false, List, [], ◌∷◌, ◌++◌, length, Option, None, Some, arith}
+use Rattle.std.proofs.Common.{◌≡◌, ◌∙◌, ◌⊎◌, inl, inr, sym, ap, subst, ℕ, Bool, true, false, List, [], ◌∷◌, ◌++◌, length, Some, arith}
 use Rattle.std.specs.Prelude.{◌==◌, slice_get}
 use Rattle.hl_parser.specs.Trees.{Tree, Trees}
-use Rattle.hl_meaning.specs.Types.{Ty, void_type}
+use Rattle.hl_meaning.specs.Types.{void_type}
 use Rattle.hl_meaning.specs.Places as places
-use Rattle.hl_meaning.specs.Programs.{Variable}
 use Rattle.hl_rules.specs.Constants.{result_type}
-use Rattle.hl_rules.specs.Declarations.{after_params, at_params, function_info, in_body, params_info}
+use Rattle.hl_rules.specs.Declarations.{after_params, at_params, function_info, in_body}
 use Rattle.hl_rules.specs.Elaboration.{param_variables}
-use Rattle.hl_rules.specs.Parts.{Site}
-use Rattle.hl_rules.specs.Scopes.{BufferInfo, FunctionInfo, Scope, a_function_name, named, spelled}
+use Rattle.hl_rules.specs.Scopes.{BufferInfo, FunctionInfo, Scope, a_function_name, a_variable_name, named, spelled}
 use Rattle.hl_rules.specs.Sites.{params_sites, result_sites}
 use Rattle.hl_parser.specs.Trees.{no_trees}
-use Rattle.hl_rules.proofs.BodyForms.{AreKnownTypes, in_body-is, in_function, params-known, sound-function, sound-params}
+use Rattle.hl_rules.proofs.BodyForms.{in_body-is, in_function, sound-function}
+use Rattle.hl_rules.proofs.CalleeForms.{function-known}
 use Rattle.hl_rules.proofs.DeclaratorForms.{IsKnownResult, result-known}
-use Rattle.hl_rules.proofs.Fitting.{Fits, FitsBuffer, FitsFunction, IsKnownFunction, is_inside}
+use Rattle.hl_rules.proofs.Fitting.{Fits, FitsBuffer, FitsFunction, FitsStructs, IsKnownFunction, is_inside}
 use Rattle.hl_rules.proofs.Free.{IsFree}
 use Rattle.hl_rules.proofs.GlobalForms.{get-push}
 use Rattle.hl_rules.proofs.JumpForms.{IsInBody}
 use Rattle.hl_rules.proofs.LocalForms.{IsDeclaring, params-declare}
+use Rattle.hl_rules.proofs.ParamForms.{sound-params, typed-params}
 use Rattle.hl_rules.proofs.ScopeForms.{FitSort, FitsNames, HoldsPart, sorts-global, sorts-outside}
 use Rattle.hl_rules.proofs.Soundness.{IsSound}
 use Rattle.hl_rules.proofs.StructFitting.{structs-fit}
 use Rattle.hl_rules.proofs.StructForms.{IsKnownType, known_words}
 use Rattle.hl_rules.proofs.TreeShapes.{AllTrees, IsParam, IsResultOf}
-use Rattle.hl_rules.proofs.VariableCounts.{IsBehind}
 
 -- ---- what is known
 
@@ -38,9 +37,9 @@ pub record IsFreeHead (s : Scope) (result : Tree) (entry : Bool) (params : Trees
 -- its parameters and its result are known
 pub head-known : (s : Scope) (result : Tree) (name : ℕ) (entry : Bool) (params : Trees) → IsSound s → s.blocks ≡ [] → IsFreeHead s result entry params → IsKnownFunction (function_info s result name params)
 head-known s result name entry params sound outside head =
-    let types = params-known (at_params s result) (sound-params s result sound outside) entry no_trees params head.params_shape head.params_free in
-    let gives = result-known s sound result head.result_shape head.result_free in
-    record { params = (types.known, types.is); result = (gives.type, gives.is) }
+    function-known s result name params
+    (typed-params (at_params s result) (sound-params s result sound outside) entry no_trees params head.params_shape head.params_free)
+    (result-known s sound result head.result_shape head.result_free)
 
 pub head-declares : (s : Scope) (result : Tree) (entry : Bool) (params : Trees) → IsSound s → s.blocks ≡ [] → IsFreeHead s result entry params → IsDeclaring (at_params s result) (after_params (at_params s result) params) (param_variables (at_params s result) params)
 head-declares s result entry params sound outside head = params-declare (at_params s result) (sound-params s result sound outside) entry no_trees params head.params_shape head.params_free
@@ -81,5 +80,21 @@ not-itself : (functions : List FunctionInfo) (f g : FunctionInfo) (number : ℕ)
 not-itself functions f g number e (inl h) = h
 not-itself functions f g number e (inr h) = absurd (cc (sym (same-number (length functions)) ∙ (ap (λ n. length functions == n) (sym h.0) ∙ e)))
 
-function-fits : (env : places.Scope) (s u : Scope) (f : FunctionInfo) (name : List ℕ) (count : ℕ) → FitsItem env s → FitsNames env u → IsSound u → IsBehind count s u → u.result ≡ Some env.result → Fits env (in_function name (s.functions ++ f ∷ []) (length s.functions) u)
-function-fits env s u f name count item names sound same result = ?
+in_function-fits : (env : places.Scope) (s u : Scope) (f : FunctionInfo) (name : List ℕ) → FitsItem env s → FitsNames env u → IsSound u → u.structs ≡ s.structs → u.buffers ≡ s.buffers → u.result ≡ Some env.result → Fits env (in_function name (s.functions ++ f ∷ []) (length s.functions) u)
+in_function-fits env s u f name item fits sound structs buffers result = record {
+  more = fits.more;
+  prefix = fits.prefix;
+  structs = subst (λ l. FitsStructs u.structs l) (sym fits.prefix) (structs-fit u.structs fits.more sound.structs);
+  buffers = λ number buffer e. item.buffers number buffer (ap (λ l. slice_get l number) (sym buffers) ∙ e);
+  variables = λ x v ty e h. sorts-global (FitSort env) u (named name a_function_name) fits.names tt x (a_variable_name v) e ty h;
+  functions = λ number g e h. item.functions number g (not-itself s.functions f g number h (get-push s.functions f number g e));
+  result = result;
+}
+
+-- what is known in the body of a function stands in its environment, whose first variables are the parameters
+pub body-fits : (env : places.Scope) (s : Scope) (result : Tree) (name : ℕ) (entry : Bool) (params : Trees) → IsSound s → s.blocks ≡ [] → IsFreeHead s result entry params → FitsItem env s → result_type s result ≡ Some env.result → HoldsPart env.variables 0 (param_variables (at_params s result) params) → Fits env (in_body s result name params)
+body-fits env s result name entry params sound outside head item gives holds =
+    let declares = head-declares s result entry params sound outside head in
+    subst (λ t. Fits env t) (sym (in_body-is s result name params))
+    (in_function-fits env s (after_params (at_params s result) params) (function_info s result name params) (spelled s name) item
+    (declares.names env (params-fit env s result outside item.names) holds) declares.sound declares.same.structs declares.same.buffers (declares.same.result ∙ gives))

@@ -64,3 +64,4 @@ pub mod CalleeForms
 pub mod Walking
 pub mod WriteForms
 pub mod ProgramScopes
+pub mod BodyForms

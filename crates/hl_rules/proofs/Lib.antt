@@ -2,7 +2,6 @@ mod FirstLemmas
 pub mod Arguments
 pub mod Becoming
 pub mod BinaryForms
-pub mod BodyFitting
 pub mod BodyForms
 pub mod BuildForms
 pub mod CalleeForms

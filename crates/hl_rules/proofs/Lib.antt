@@ -12,6 +12,10 @@ pub mod PathSteps
 pub mod SwizzleSteps
 pub mod Paths
 pub mod ShortTypes
+pub mod Signatures
+pub mod CommonTypes
+pub mod Candidates
+pub mod CallForms
 pub mod Arguments
 pub mod BuildForms
 pub mod IndexForms
@@ -23,3 +27,5 @@ pub mod WriteForms
 pub mod SignForms
 pub mod ChoiceForms
 pub mod Marks
+pub mod IntrinsicForms
+pub mod AtomicKinds

@@ -29,3 +29,5 @@ pub mod ChoiceForms
 pub mod Marks
 pub mod IntrinsicForms
 pub mod AtomicKinds
+pub mod AtomicOperands
+pub mod AtomicForms

@@ -31,3 +31,6 @@ pub mod IntrinsicForms
 pub mod AtomicKinds
 pub mod AtomicOperands
 pub mod AtomicForms
+pub mod AtomicCalls
+pub mod ConstantNumbers
+pub mod Methods

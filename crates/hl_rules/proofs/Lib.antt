@@ -1,11 +1,18 @@
 mod FirstLemmas
 pub mod Arguments
+pub mod AtomicCalls
+pub mod AtomicForms
+pub mod AtomicKinds
+pub mod AtomicOperands
 pub mod Becoming
 pub mod BinaryForms
 pub mod BodyForms
 pub mod BuildForms
+pub mod CallForms
 pub mod CalleeForms
+pub mod Candidates
 pub mod ChoiceForms
+pub mod CommonTypes
 pub mod ConstantForms
 pub mod ConstantItems
 pub mod ConstantNumbers
@@ -25,11 +32,13 @@ pub mod GlobalForms
 pub mod IndexForms
 pub mod InitForms
 pub mod InputForms
+pub mod IntrinsicForms
 pub mod ItemForms
 pub mod JumpForms
 pub mod LayoutForms
 pub mod LocalForms
 pub mod Marks
+pub mod Methods
 pub mod Noting
 pub mod Options
 pub mod ParamForms
@@ -46,6 +55,7 @@ pub mod Searching
 pub mod Shapes
 pub mod ShortTypes
 pub mod SignForms
+pub mod Signatures
 pub mod Soundness
 pub mod StartForms
 pub mod StatementForms

@@ -34,3 +34,4 @@ pub mod AtomicForms
 pub mod AtomicCalls
 pub mod ConstantNumbers
 pub mod Methods
+pub mod MethodForms

@@ -35,3 +35,5 @@ pub mod AtomicCalls
 pub mod ConstantNumbers
 pub mod Methods
 pub mod MethodForms
+pub mod WordForms
+pub mod OperatorSites

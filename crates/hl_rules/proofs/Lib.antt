@@ -38,8 +38,10 @@ pub mod JumpForms
 pub mod LayoutForms
 pub mod LocalForms
 pub mod Marks
+pub mod MethodForms
 pub mod Methods
 pub mod Noting
+pub mod OperatorSites
 pub mod Options
 pub mod ParamForms
 pub mod PathSteps
@@ -74,4 +76,5 @@ pub mod TypeLemmas
 pub mod ValueForms
 pub mod VariableCounts
 pub mod Walking
+pub mod WordForms
 pub mod WriteForms

@@ -65,3 +65,4 @@ pub mod Walking
 pub mod WriteForms
 pub mod ProgramScopes
 pub mod BodyForms
+pub mod FunctionForms

@@ -49,24 +49,24 @@ pub record IsFunctionBehind (env : places.Scope) (functions : List FunctionDef) 
 
 -- ---- parts
 
-body-made : ExpressionsBecome → (s : Scope) → IsInBody s → (block : Tree) → IsBlock s.tokens block → IsFree (body_sites s block) → IsMade s (body_variables s block) (body_code s block) (always_returns s.tokens block)
+pub body-made : ExpressionsBecome → (s : Scope) → IsInBody s → (block : Tree) → IsBlock s.tokens block → IsFree (body_sites s block) → IsMade s (body_variables s block) (body_code s block) (always_returns s.tokens block)
 body-made claim s known (a_block at statements) shape free = statements-made claim s known statements shape free
 body-made claim s known other shape free = absurd shape
 
-numbered-from : (s : Scope) (number : ℕ) (params : Trees) → AreNumberedFrom number (parameters_from s number params)
+pub numbered-from : (s : Scope) (number : ℕ) (params : Trees) → AreNumberedFrom number (parameters_from s number params)
 numbered-from s number no_trees = tt
 numbered-from s number (more_trees first rest) = (refl, numbered-from s (suc number) rest)
 
-same-count : (s t : Scope) (tokens : List Lexeme) (number : ℕ) (params : Trees) → AllTrees (IsParam tokens) params → length (parameters_from s number params) ≡ length (param_variables t params)
+pub same-count : (s t : Scope) (tokens : List Lexeme) (number : ℕ) (params : Trees) → AllTrees (IsParam tokens) params → length (parameters_from s number params) ≡ length (param_variables t params)
 same-count s t tokens number no_trees shape = refl
 same-count s t tokens number (more_trees (a_param at constant direction type declarator semantic) rest) shape =
     ap suc (same-count s (after_param t (a_param at constant direction type declarator semantic)) tokens (suc number) rest shape.1)
 same-count s t tokens number (more_trees other rest) shape = absurd shape.0
 
-declared-variables : (structs : List StructDef) (words : List ℕ) (variables : List Variable) → ((ty : Ty) → IsKnownType words ty → IsDeclared structs ty) → AreKnownVariables words variables → All (λ (v : Variable). IsDeclared structs v.ty) variables
+pub declared-variables : (structs : List StructDef) (words : List ℕ) (variables : List Variable) → ((ty : Ty) → IsKnownType words ty → IsDeclared structs ty) → AreKnownVariables words variables → All (λ (v : Variable). IsDeclared structs v.ty) variables
 declared-variables structs words variables declared known = λ k d h. declared _ (known k d h)
 
-void-result : (s : Scope) (result : Tree) (ty : Ty) → is_no_result result ≡ true → result_type s result ≡ Some ty → is_void ty ≡ true
+pub void-result : (s : Scope) (result : Tree) (ty : Ty) → is_no_result result ≡ true → result_type s result ≡ Some ty → is_void ty ≡ true
 void-result s (a_result at absent) ty e h = ap (λ t. is_void t) (sym (some-same void_type ty h))
 void-result s (a_result at (present type)) ty e h = absurd (cc e)
 void-result s other ty e h = absurd (cc e)
@@ -76,6 +76,6 @@ or-true true = refl
 or-true false = refl
 
 -- rule 21 says that a function with a result always returns
-returns-there : (none returns : Bool) (no_result always : Bool) → not no_result && not always ≡ false → (no_result ≡ true → none ≡ true) → returns ≡ always → none || returns ≡ true
+pub returns-there : (none returns : Bool) (no_result always : Bool) → not no_result && not always ≡ false → (no_result ≡ true → none ≡ true) → returns ≡ always → none || returns ≡ true
 returns-there none returns true always e h k = ap (λ b. b || returns) (h refl)
 returns-there none returns false always e h k = ap (λ b. none || b) (k ∙ not-false always e) ∙ or-true none

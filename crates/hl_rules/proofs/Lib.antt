@@ -66,3 +66,4 @@ pub mod WriteForms
 pub mod ProgramScopes
 pub mod BodyForms
 pub mod FunctionForms
+pub mod FunctionItems

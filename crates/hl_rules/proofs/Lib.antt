@@ -26,6 +26,8 @@ pub mod ExpressionShapes
 pub mod Fitting
 pub mod Free
 pub mod FunctionEntry
+pub mod FunctionForms
+pub mod FunctionItems
 pub mod FunctionNames
 pub mod Gathering
 pub mod GlobalForms

@@ -1,12 +1,12 @@
 -- What is known stays known behind the declarations of structs, buffers and functions.
-use Rattle.std.proofs.Common.{◌≡◌, ◌∙◌, ◌⊎◌, inl, inr, refl, sym, ap, subst, ℕ, zero, suc, ◌<◌, ◌≤◌, Bool, true, false, List, [], ◌∷◌, ◌++◌, length, Option, None, Some, length-append, arith}
+use Rattle.std.proofs.Common.{◌≡◌, ◌∙◌, ◌⊎◌, inl, inr, refl, ap, subst, ℕ, zero, suc, ◌<◌, false, List, [], ◌∷◌, ◌++◌, length, Some, length-append, arith}
 use Rattle.std.specs.Prelude.{slice_get, unwrap_or}
 use Rattle.std.proofs.lemmas.Option.{slice_get_within}
 use Rattle.hl_meaning.specs.Types.{Ty}
-use Rattle.hl_rules.specs.Scopes.{BufferInfo, FunctionInfo, Named, Scope, StructInfo, a_buffer_name, a_function_name, a_struct_name, named, with_global}
+use Rattle.hl_rules.specs.Scopes.{BufferInfo, FunctionInfo, Scope, StructInfo, a_buffer_name, a_function_name, a_struct_name, named, with_global}
 use Rattle.hl_rules.proofs.Fitting.{IsKnownFunction}
 use Rattle.hl_rules.proofs.LayoutForms.{get-front, get-next}
-use Rattle.hl_rules.proofs.ScopeForms.{KnownSort, sound-global}
+use Rattle.hl_rules.proofs.ScopeForms.{sound-global}
 use Rattle.hl_rules.proofs.Soundness.{IsSound}
 use Rattle.hl_rules.proofs.StructForms.{IsKnownStruct, known-push, known_words}
 use Rattle.hl_rules.proofs.StructMembers.{named-member}

@@ -67,3 +67,4 @@ pub mod ProgramScopes
 pub mod BodyForms
 pub mod FunctionForms
 pub mod FunctionItems
+pub mod ProgramSteps

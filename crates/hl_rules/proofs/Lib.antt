@@ -68,3 +68,4 @@ pub mod BodyForms
 pub mod FunctionForms
 pub mod FunctionItems
 pub mod ProgramSteps
+pub mod VariableSteps

@@ -27,14 +27,14 @@ use Rattle.hl_rules.proofs.ScopeForms.{FitSort, FitsNames, declared-there, sorts
 use Rattle.hl_rules.proofs.StructForms.{IsKnownStruct, IsKnownType, known_words}
 use Rattle.hl_rules.proofs.TreeShapes.{AllTrees, IsParam}
 
-length-push : {A : Type 0} (xs : List A) (x : A) (n : ℕ) → length xs ≡ n → length (xs ++ x ∷ []) ≡ suc n
+pub length-push : {A : Type 0} (xs : List A) (x : A) (n : ℕ) → length xs ≡ n → length (xs ++ x ∷ []) ≡ suc n
 length-push xs x n e = omega (arith, length-append xs (x ∷ []), e)
 
 length-both : {A B : Type 0} (xs : List A) (x : A) (ys : List B) (y : B) → length xs ≡ length ys → length (xs ++ x ∷ []) ≡ length (ys ++ y ∷ [])
 length-both xs x ys y e = omega (arith, length-append xs (x ∷ []), length-append ys (y ∷ []), e)
 
 -- what stands behind as many
-get-at : {A : Type 0} (all xs : List A) (x : A) (more : List A) (n : ℕ) → all ≡ xs ++ x ∷ more → length xs ≡ n → slice_get all n ≡ Some x
+pub get-at : {A : Type 0} (all xs : List A) (x : A) (more : List A) (n : ℕ) → all ≡ xs ++ x ∷ more → length xs ≡ n → slice_get all n ≡ Some x
 get-at all xs x more n e h = ap (λ l. slice_get l n) e ∙ (ap (λ k. slice_get (xs ++ x ∷ more) k) (sym h) ∙ get-next xs x more)
 
 module _ (structs : List StructDef) (resources : List Resource) (shared : List Variable) (constants : List Constant) (s : Scope) (rs : List Resource) (ss : List Variable) (cs : List Constant) (fs : List FunctionDef) (stands : Stands (program_env structs resources shared constants) s rs ss cs fs) (more : List StructDef) (prefix : structs ≡ struct_defs s.structs ++ more) where

@@ -52,6 +52,7 @@ pub mod PlaceForms
 pub mod Productions
 pub mod ProgramEntry
 pub mod ProgramScopes
+pub mod ProgramSteps
 pub mod Relations
 pub mod ResourceForms
 pub mod ScopeForms
@@ -77,6 +78,7 @@ pub mod TreeShapes
 pub mod TypeLemmas
 pub mod ValueForms
 pub mod VariableCounts
+pub mod VariableSteps
 pub mod Walking
 pub mod WordForms
 pub mod WriteForms

@@ -37,3 +37,4 @@ pub mod Methods
 pub mod MethodForms
 pub mod WordForms
 pub mod OperatorSites
+pub mod WriteSites

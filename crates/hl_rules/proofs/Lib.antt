@@ -82,3 +82,4 @@ pub mod VariableSteps
 pub mod Walking
 pub mod WordForms
 pub mod WriteForms
+pub mod WriteSites

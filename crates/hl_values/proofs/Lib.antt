@@ -1,4 +1,6 @@
 pub mod ChangeLemmas
+pub mod ConstantLemmas
+pub mod KnownLemmas
 pub mod NameLemmas
 pub mod NotedLemmas
 pub mod ScopeLemmas

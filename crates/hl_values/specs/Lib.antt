@@ -1,3 +1,5 @@
+pub mod Arrays
+pub mod GlobalNames
 pub mod NameEntries
 pub mod NameTables
 pub mod ScopeChanges

@@ -1,7 +1,9 @@
 //! Expressions: which names are known, what an expression becomes, and the typing rules that it breaks.
 #![tactic(auto)]
 
+mod constants;
 mod declare;
+mod known;
 mod lookup;
 mod name_table;
 mod scope;

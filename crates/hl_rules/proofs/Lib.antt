@@ -69,3 +69,4 @@ pub mod FunctionForms
 pub mod FunctionItems
 pub mod ProgramSteps
 pub mod VariableSteps
+pub mod SharedItems

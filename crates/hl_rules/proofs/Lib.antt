@@ -70,3 +70,5 @@ pub mod FunctionItems
 pub mod ProgramSteps
 pub mod VariableSteps
 pub mod SharedItems
+pub mod ProgramItems
+pub mod ProgramInduction

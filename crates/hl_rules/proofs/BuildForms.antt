@@ -48,7 +48,7 @@ kind_eq-refl BoolKind = refl
 kind_eq-refl IntKind = refl
 kind_eq-refl UintKind = refl
 
-kind-is : (kind : Kind) (ty : Ty) → is_basic ty ≡ true → is_of kind (with_kind kind ty) ≡ true
+pub kind-is : (kind : Kind) (ty : Ty) → is_basic ty ≡ true → is_of kind (with_kind kind ty) ≡ true
 kind-is kind (scalar_type k) e = kind_eq-refl kind
 kind-is kind (vector_type k size) e = kind_eq-refl kind
 kind-is kind void_type e = absurd (cc e)

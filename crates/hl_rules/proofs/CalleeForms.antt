@@ -1,23 +1,23 @@
 -- A function of the program has the parameters and the result that are known of it.
-use Rattle.std.proofs.Common.{◌≡◌, ◌∙◌, ◌⊎◌, inl, inr, refl, sym, ap, subst, ℕ, suc, ◌≤◌, Bool, List, [], ◌∷◌, ◌++◌, map, length, Option, None, Some, append_assoc}
-use Rattle.std.specs.Prelude.{is_some, option_and_then, option_map, slice_get, unwrap_or}
+use Rattle.std.proofs.Common.{◌≡◌, ◌∙◌, ◌⊎◌, inl, inr, refl, sym, ap, subst, ℕ, suc, List, [], ◌∷◌, ◌++◌, map, length, Option, Some, append_assoc}
+use Rattle.std.specs.Prelude.{option_and_then, option_map, unwrap_or}
 use Rattle.std.specs.List.{All}
 use Rattle.std.proofs.lemmas.List.Elements.{All-cons, All-nil}
 use Rattle.hl_lexer.specs.Tokens.{Lexeme}
-use Rattle.hl_parser.specs.Trees.{Maybe, Tree, Trees, a_param, at_of, more_trees, no_trees}
+use Rattle.hl_parser.specs.Trees.{Tree, Trees, a_param, more_trees, no_trees}
 use Rattle.hl_meaning.specs.Places as places
 use Rattle.hl_meaning.specs.Places.{variable_type}
-use Rattle.hl_meaning.specs.Programs.{FunctionDef, StructDef, Variable}
+use Rattle.hl_meaning.specs.Programs.{StructDef, Variable}
 use Rattle.hl_meaning.specs.Trees.{Stmts}
 use Rattle.hl_meaning.specs.Types.{Ty, void_type}
-use Rattle.hl_meaning.specs.WellFormed.{IsDeclared, IsResult, callee_params, callee_result, param_of}
+use Rattle.hl_meaning.specs.WellFormed.{IsDeclared, IsResult, callee_params, param_of}
 use Rattle.hl_overload.specs.Choice.{Param}
-use Rattle.hl_rules.specs.Constants.{declarator_type, named_type, result_type}
-use Rattle.hl_rules.specs.Declarations.{after_param, at_params, copying_of, function_info, in_body, param_copying, param_type, params_info}
+use Rattle.hl_rules.specs.Constants.{named_type, result_type}
+use Rattle.hl_rules.specs.Declarations.{after_param, at_params, copying_of, function_info, in_body, param_copying, params_info}
 use Rattle.hl_rules.specs.Elaboration.{body_variables, declared_variable, param_variables, parameters_from}
 use Rattle.hl_rules.specs.Scopes.{Scope}
 use Rattle.hl_rules.specs.Values.{params_known}
-use Rattle.hl_rules.proofs.DeclaratorForms.{IsKnownAs, IsKnownResult}
+use Rattle.hl_rules.proofs.DeclaratorForms.{IsKnownResult}
 use Rattle.hl_rules.proofs.Fitting.{FitsFunction, IsKnownFunction, param_for}
 use Rattle.hl_rules.proofs.FunctionEntry.{made_function}
 use Rattle.hl_rules.proofs.InputForms.{copying-tokens, param-tokens}

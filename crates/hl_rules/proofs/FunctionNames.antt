@@ -1,5 +1,5 @@
 -- The name of a function changes no type and no constant number.
-use Rattle.std.proofs.Common.{◌≡◌, ◌∙◌, refl, sym, ap, ℕ, Bool, true, false, if◌then◌else◌, nat_le, List, [], ◌∷◌, ◌++◌, Option, None, Some}
+use Rattle.std.proofs.Common.{◌≡◌, ◌∙◌, refl, ap, ℕ, Bool, true, false, if◌then◌else◌, nat_le, List, [], ◌∷◌, ◌++◌, Option, None, Some}
 use Rattle.std.specs.Prelude.{bytes_eq, is_some, option_and_then, option_map}
 use Rattle.hl_lexer.specs.declared.terminal.Terminal.{Terminal}
 use Rattle.hl_lexer.specs.declared.terminal.Terminal.TheVariants as terminals
@@ -7,7 +7,7 @@ use Rattle.hl_parser.specs.Trees.{Tree, Trees, a_binary, a_declarator, a_param, 
 use Rattle.hl_meaning.specs.Types.{Ty, array_type}
 use Rattle.hl_rules.specs.Constants.{array_length, array_of, combined, constant_number, declarator_type, length_if, most_lengths, named_type, number_of_sort, result_type, struct_of_sort, tree_count, word_number}
 use Rattle.hl_rules.specs.Declarations.{after_param, after_params, with_variable}
-use Rattle.hl_rules.specs.Scopes.{FunctionInfo, Named, Scope, Sort, a_function_name, declared_among, declared_in, named, sort_at, sort_of, spelled}
+use Rattle.hl_rules.specs.Scopes.{FunctionInfo, Named, Scope, Sort, a_function_name, declared_among, declared_in, named, sort_of, spelled}
 use Rattle.hl_rules.specs.Source.{terminal_at}
 
 -- ---- names

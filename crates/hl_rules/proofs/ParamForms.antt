@@ -1,9 +1,7 @@
 -- The parameters of a function that breaks no rule have types, and stand in the program.
-use Rattle.std.proofs.Common.{◌≡◌, ◌∙◌, refl, sym, ap, subst, ℕ, suc, ◌≤◌, Bool, true, false, List, [], ◌∷◌, ◌++◌, map, length, Option, None, Some, append_assoc}
-use Rattle.std.specs.Prelude.{is_some, option_and_then, option_map, unwrap_or}
-use Rattle.hl_parser.specs.Trees.{Tree, Trees, a_param, at_of, more_trees, no_trees}
-use Rattle.hl_meaning.specs.Types.{Ty}
-use Rattle.hl_rules.specs.Declarations.{after_param, after_params, at_params, param_type}
+use Rattle.std.proofs.Common.{◌≡◌, Bool, false, [], ◌∷◌}
+use Rattle.hl_parser.specs.Trees.{Tree, Trees, a_param, more_trees, no_trees}
+use Rattle.hl_rules.specs.Declarations.{after_param, at_params, param_type}
 use Rattle.hl_rules.specs.Sites.{and_tree, params_sites}
 use Rattle.hl_rules.specs.Scopes.{Scope}
 use Rattle.hl_rules.proofs.DeclaratorForms.{IsKnownAs}

@@ -1,20 +1,17 @@
 -- What is known between the items of a program stands in the program, and so does what is known in a function's body.
-use Rattle.std.proofs.Common.{◌≡◌, ◌∙◌, ◌⊎◌, inl, inr, refl, sym, ap, subst, arith, ℕ, ◌≤◌, Bool, true, false, List, [], ◌∷◌, ◌++◌, length, Option, None, Some}
-use Rattle.std.specs.Prelude.{◌==◌, slice_get}
+use Rattle.std.proofs.Common.{◌≡◌, ◌∙◌, ap, ℕ, true, false, List, [], ◌∷◌, ◌++◌, length, Option, Some}
+use Rattle.std.specs.Prelude.{slice_get}
 use Rattle.hl_parser.specs.Trees.{Tree, Trees}
 use Rattle.hl_meaning.specs.Places as places
 use Rattle.hl_meaning.specs.Places.{is_writable_root, root_type}
 use Rattle.hl_meaning.specs.Programs.{Constant, FunctionDef, Resource, StructDef, Variable}
 use Rattle.hl_meaning.specs.Trees.{Root, constant_root, element_root, shared_root, variable_root}
 use Rattle.hl_meaning.specs.Types.{Ty, void_type}
-use Rattle.hl_rules.specs.Constants.{result_type}
 use Rattle.hl_rules.specs.Declarations.{after_params, at_params, function_info, in_body}
-use Rattle.hl_rules.specs.Elaboration.{param_variables}
-use Rattle.hl_rules.specs.Scopes.{BufferInfo, FunctionInfo, Named, Scope, Sort, VariableInfo, a_buffer_name, a_function_name, a_struct_name, a_variable_name, named, spelled}
-use Rattle.hl_rules.specs.Statements.{struct_defs}
+use Rattle.hl_rules.specs.Scopes.{BufferInfo, FunctionInfo, Scope, Sort, VariableInfo, a_buffer_name, a_function_name, a_struct_name, a_variable_name, spelled}
 use Rattle.hl_rules.proofs.Fitting.{FitsBuffer, FitsFunction, FitsVariable}
 use Rattle.hl_rules.proofs.FunctionNames.{and_function, params-kept, result-kept}
-use Rattle.hl_rules.proofs.ScopeForms.{AllSorts, FitSort, FitsNames, sorts-outside}
+use Rattle.hl_rules.proofs.ScopeForms.{AllSorts, FitSort}
 use Rattle.hl_rules.proofs.Soundness.{IsSound}
 
 -- ---- environments

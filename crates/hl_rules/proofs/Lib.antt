@@ -85,3 +85,4 @@ pub mod VariableSteps
 pub mod SharedItems
 pub mod ProgramItems
 pub mod ProgramInduction
+pub mod ProgramForms

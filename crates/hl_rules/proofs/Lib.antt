@@ -86,3 +86,5 @@ pub mod SharedItems
 pub mod ProgramItems
 pub mod ProgramInduction
 pub mod ProgramForms
+pub mod LexemeForms
+pub mod WholePrograms

@@ -38,6 +38,7 @@ pub mod IntrinsicForms
 pub mod ItemForms
 pub mod JumpForms
 pub mod LayoutForms
+pub mod LexemeForms
 pub mod LocalForms
 pub mod Marks
 pub mod MethodForms
@@ -51,6 +52,9 @@ pub mod Paths
 pub mod PlaceForms
 pub mod Productions
 pub mod ProgramEntry
+pub mod ProgramForms
+pub mod ProgramInduction
+pub mod ProgramItems
 pub mod ProgramScopes
 pub mod ProgramSteps
 pub mod Relations
@@ -58,6 +62,7 @@ pub mod ResourceForms
 pub mod ScopeForms
 pub mod Searching
 pub mod Shapes
+pub mod SharedItems
 pub mod ShortTypes
 pub mod SignForms
 pub mod Signatures
@@ -80,6 +85,7 @@ pub mod ValueForms
 pub mod VariableCounts
 pub mod VariableSteps
 pub mod Walking
+pub mod WholePrograms
 pub mod WordForms
 pub mod WriteForms
 pub mod WriteSites

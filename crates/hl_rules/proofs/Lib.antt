@@ -38,3 +38,5 @@ pub mod MethodForms
 pub mod WordForms
 pub mod OperatorSites
 pub mod WriteSites
+pub mod PostfixSites
+pub mod IndexSites

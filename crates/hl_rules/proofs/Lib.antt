@@ -89,3 +89,5 @@ pub mod WholePrograms
 pub mod WordForms
 pub mod WriteForms
 pub mod WriteSites
+pub mod PostfixSites
+pub mod IndexSites

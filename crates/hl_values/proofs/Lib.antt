@@ -1,0 +1,6 @@
+pub mod ChangeLemmas
+pub mod NameLemmas
+pub mod NotedLemmas
+pub mod ScopeLemmas
+pub mod StructLemmas
+pub mod WordLemmas

@@ -64,10 +64,15 @@ abbrev pub bare_at : Tree → ℕ
 bare_at (a_primary at (present inner) absent) = bare_at inner
 bare_at e = at_of e
 
+-- What isn't a constant number is no literal: a number in a cast to its own type, which is that number, stands behind a `+`.
+abbrev pub no_literal : Expr → Expr
+no_literal (an_expr ty at (literal_form word)) = an_expr ty at (unary_form 12 (an_expr ty at (literal_form word)))
+no_literal e = e
+
 -- An index: a constant number is a literal of uint, and any other index is converted to uint.
 abbrev pub index_expr : (at : ℕ) → (number : Option ℕ) → Code → Option Expr
 index_expr at (Some number) code = Some (an_expr uint_type at (literal_form number))
-index_expr at None code = converted_code uint_type code
+index_expr at None code = option_map no_literal (converted_code uint_type code)
 
 -- what an index gives behind something of a type, an array or a vector
 abbrev pub indexed_into : (at : ℕ) → Expr → Ty → Code → Option Code

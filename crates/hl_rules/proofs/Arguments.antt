@@ -1,16 +1,16 @@
 -- Arguments become what is known of them, one by one.
-use Rattle.std.proofs.Common.{◌≡◌, ◌∙◌, refl, sym, ap, subst, ℕ, Bool, true, false, not, List, [], ◌∷◌, map, Option, None, Some}
+use Rattle.std.proofs.Common.{◌≡◌, ◌∙◌, refl, sym, ap, true, false, List, [], ◌∷◌, map, Option, Some}
 use Rattle.std.specs.Prelude.{option_and_then, option_map}
-use Rattle.hl_parser.specs.Trees.{Tree, Trees, more_trees, no_trees}
+use Rattle.hl_parser.specs.Trees.{Tree, Trees, more_trees}
 use Rattle.hl_meaning.specs.Types.{Ty, is_basic, is_void}
 use Rattle.hl_meaning.specs.Conversions.{converts}
-use Rattle.hl_meaning.specs.Trees.{Expr, Exprs, more_exprs, no_exprs, type_of, types_of}
+use Rattle.hl_meaning.specs.Trees.{Expr, Exprs, more_exprs, no_exprs, types_of}
 use Rattle.hl_meaning.specs.Places as places
-use Rattle.hl_meaning.specs.WellFormed.{AreExprs, IsExpr, IsResult}
-use Rattle.hl_rules.specs.Expressions.{code_of, codes_of, with_two}
+use Rattle.hl_meaning.specs.WellFormed.{AreExprs, IsResult}
+use Rattle.hl_rules.specs.Expressions.{code_of, codes_of}
 use Rattle.hl_rules.specs.Nodes.{Code, converted_code, converted_each, type_of_code, value_of_code}
 use Rattle.hl_rules.specs.Scopes.{Scope}
-use Rattle.hl_rules.specs.Values.{Value, argument_types, is_no_operand, is_no_operand_type, valued, values_of}
+use Rattle.hl_rules.specs.Values.{Value, argument_types, is_no_operand, is_no_operand_type, valued}
 use Rattle.hl_rules.proofs.Becoming.{Agrees, Becomes, IsConverted, IsValueIn, code-stands, converted-there, not-true, valued-there, with_two-there}
 use Rattle.hl_rules.proofs.Fitting.{Fits, IsCode}
 

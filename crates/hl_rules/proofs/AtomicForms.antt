@@ -1,5 +1,5 @@
 -- Interlocked operations become what is known of them.
-use Rattle.std.proofs.Common.{◌≡◌, ◌∙◌, refl, sym, ap, subst, ℕ, Bool, true, false, ◌&&◌, List, [], ◌∷◌, Option, None, Some}
+use Rattle.std.proofs.Common.{◌≡◌, ◌∙◌, refl, sym, subst, ℕ, Bool, true, false, ◌&&◌, Option, None, Some}
 use Rattle.std.specs.Prelude.{IsTrue, is_none, is_some}
 use Rattle.std.proofs.lemmas.Bool.{and_parts}
 use Rattle.lane_core.specs.declared.event.AtomicKind.{AtomicKind}
@@ -9,7 +9,7 @@ use Rattle.hl_meaning.specs.Types.{Ty, scalar_type, void_type}
 use Rattle.hl_meaning.specs.Places as places
 use Rattle.hl_meaning.specs.Places.{is_writable_place}
 use Rattle.hl_meaning.specs.Trees.{Expr, Location, Target, an_expr, atomic_form, bytes_target, no_expr, no_location, place_target, place_type, some_expr, some_location, type_of}
-use Rattle.hl_meaning.specs.WellFormed.{IsCompared, IsExpr, IsOriginal, IsPlace, IsTarget, IsWord, is_kind_for}
+use Rattle.hl_meaning.specs.WellFormed.{IsCompared, IsExpr, IsOriginal, IsPlace, IsTarget, IsWord}
 use Rattle.hl_rules.specs.declared.interlocked.Interlocked.{Interlocked}
 use Rattle.hl_rules.specs.declared.interlocked.Presence.{Presence}
 use Rattle.hl_rules.specs.Intrinsics.{Operands, interlocked_form, may_be_absent}

@@ -1,6 +1,5 @@
 -- An expression that breaks no rule becomes what is known of it, and that is well formed in every program that the scope fits.
 use Rattle.std.proofs.Common.{◌≡◌, ◌∙◌, refl, sym, ap, subst, ℕ, Bool, true, false, not, if◌then◌else◌, List, [], ◌∷◌, Option, None, Some}
-use Rattle.std.specs.Prelude.{option_and_then, IsTrue}
 use Rattle.hl_parser.specs.Trees.{Tree}
 use Rattle.hl_meaning.specs.Types.{Ty, array_type, is_basic, is_void, scalar_type, struct_type, ty_eq, vector_type, void_type}
 use Rattle.hl_meaning.specs.Conversions.{converts}

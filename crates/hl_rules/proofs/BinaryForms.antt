@@ -1,22 +1,19 @@
 -- Operators between two operands.
-use Rattle.std.proofs.Common.{◌≡◌, ◌∙◌, refl, sym, ap, subst, arith, ℕ, ◌≤◌, Bool, true, false, ◌&&◌, ◌||◌, if◌then◌else◌, not, nat_le, List, [], ◌∷◌, Option, None, Some}
+use Rattle.std.proofs.Common.{◌≡◌, ◌∙◌, refl, sym, ap, subst, arith, ℕ, Bool, true, false, ◌&&◌, ◌||◌, if◌then◌else◌, not, nat_le, List, [], ◌∷◌, None, Some}
 use Rattle.std.specs.Prelude.{◌==◌, option_map}
-use Rattle.std.specs.List.{list_all, list_any}
+use Rattle.std.specs.List.{list_all}
 use Rattle.hl_meaning.specs.declared.ty.Kind.{Kind}
 use Rattle.hl_meaning.specs.declared.ty.Kind.TheVariants.{Bool as BoolKind, Int as IntKind, Uint as UintKind}
 use Rattle.hl_meaning.specs.Types.{Ty, array_type, is_basic, is_numeric, is_of, is_scalar, scalar_type, struct_type, vector_type, void_type, with_kind}
 use Rattle.hl_meaning.specs.Conversions.{converts}
 use Rattle.hl_meaning.specs.Operators.{binary_type, comparing, computing, is_among, joining}
-use Rattle.hl_meaning.specs.Trees.{Expr, an_expr, binary_form, type_of}
-use Rattle.hl_meaning.specs.Places as places
-use Rattle.hl_meaning.specs.WellFormed.{IsExpr}
+use Rattle.hl_meaning.specs.Trees.{Expr, an_expr, binary_form}
 use Rattle.hl_rules.specs.Expressions.{binary_code}
 use Rattle.hl_rules.specs.Nodes.{Code, a_value, a_value_code, converted_code, type_of_code, value_of_code}
 use Rattle.hl_rules.specs.Operands.{common_kind, common_type, computing_kind, joint_type, kind_of, number_kind, operand_type, operator_type, shift_type, sized}
 use Rattle.hl_rules.specs.Scopes.{Scope}
 use Rattle.hl_rules.specs.Values.{plain_value}
 use Rattle.hl_rules.proofs.Becoming.{Becomes, IsConverted, IsValueIn, converted-there, operand-short}
-use Rattle.hl_rules.proofs.Fitting.{Fits}
 use Rattle.hl_rules.proofs.Marks.{is_operator_of}
 use Rattle.hl_rules.proofs.ShortTypes.{IsShort, short-kind, short-result}
 use Rattle.hl_rules.proofs.TypeLemmas.{IsSized, and-left, and-right, is_number_kind, same-number, sized-there}

@@ -1,11 +1,11 @@
 -- Constructors become what is known of them.
-use Rattle.std.proofs.Common.{◌≡◌, ◌∙◌, refl, sym, ap, subst, ℕ, ◌+◌, Bool, true, false, ◌&&◌, ◌||◌, not, fold, List, [], ◌∷◌, map, sum, sum_by, Option, None, Some}
-use Rattle.std.specs.Prelude.{◌==◌, IsTrue}
+use Rattle.std.proofs.Common.{◌≡◌, ◌∙◌, refl, sym, ap, subst, ℕ, ◌+◌, true, false, ◌||◌, fold, List, [], ◌∷◌, map, sum, Option, Some}
+use Rattle.std.specs.Prelude.{◌==◌}
 use Rattle.std.specs.List.{list_all, list_any}
 use Rattle.std.proofs.lemmas.Bool.{and_from, or_parts}
 use Rattle.hl_meaning.specs.declared.ty.Kind.{Kind}
 use Rattle.hl_meaning.specs.declared.ty.Kind.TheVariants.{Bool as BoolKind, Int as IntKind, Uint as UintKind}
-use Rattle.hl_meaning.specs.Types.{Ty, array_type, component_count, is_alike, is_basic, is_of, kind_eq, scalar_type, struct_type, vector_type, void_type, with_kind}
+use Rattle.hl_meaning.specs.Types.{Ty, array_type, component_count, is_basic, is_of, kind_eq, scalar_type, struct_type, vector_type, void_type, with_kind}
 use Rattle.hl_meaning.specs.Programs.{StructDef}
 use Rattle.hl_meaning.specs.Trees.{Expr, Exprs, an_expr, build_form, more_exprs, no_exprs, types_of}
 use Rattle.hl_meaning.specs.Places as places
@@ -16,7 +16,7 @@ use Rattle.hl_rules.specs.Nodes.{Code, a_value, a_value_code, converted_code, in
 use Rattle.hl_rules.specs.Operands.{kind_of}
 use Rattle.hl_rules.specs.Scopes.{Scope}
 use Rattle.hl_rules.specs.Values.{Value, argument_types, is_no_operand, plain_value}
-use Rattle.hl_rules.proofs.Arguments.{ArgumentsBecome, IsArgument, argument-basic, argument-stands, arguments-typed}
+use Rattle.hl_rules.proofs.Arguments.{ArgumentsBecome, argument-basic, argument-stands, arguments-typed}
 use Rattle.hl_rules.proofs.Becoming.{Becomes, IsConverted, converted-there, not-true}
 use Rattle.hl_rules.proofs.Fitting.{Fits}
 use Rattle.hl_rules.proofs.ShortTypes.{IsShort, short-result}

@@ -1,16 +1,15 @@
 -- Calls of functions become what is known of them.
-use Rattle.std.proofs.Common.{◌≡◌, ◌∙◌, refl, sym, ap, subst, arith, ℕ, suc, ◌+◌, Bool, true, false, ◌&&◌, not, if◌then◌else◌, List, [], ◌∷◌, ◌++◌, map, length, All, Option, None, Some, Result, Ok, Err}
-use Rattle.std.specs.Prelude.{◌==◌, bytes_eq, is_some, option_and_then, option_map, slice_get, IsTrue}
-use Rattle.std.proofs.lemmas.Option.{option_and_then_some, same_Some}
+use Rattle.std.proofs.Common.{◌≡◌, ◌∙◌, refl, sym, ap, subst, arith, ℕ, suc, Bool, true, false, if◌then◌else◌, List, [], ◌∷◌, map, All, Option, None, Some}
+use Rattle.std.specs.Prelude.{is_some, option_and_then, option_map, slice_get, IsTrue}
 use Rattle.hl_parser.specs.Trees.{Tree, Trees, at_of, more_trees, no_trees}
 use Rattle.hl_meaning.specs.declared.program.Copying.{Copying}
 use Rattle.hl_meaning.specs.declared.program.Copying.TheVariants.{CopyBoth, CopyIn, CopyOut}
 use Rattle.hl_meaning.specs.Types.{Ty, ty_eq}
 use Rattle.hl_meaning.specs.Conversions.{conversion_cost, converts}
-use Rattle.hl_meaning.specs.Trees.{Arg, Args, Expr, Location, a_location, an_expr, call_form, more_args, no_args, place_arg, place_type, type_of, value_arg}
+use Rattle.hl_meaning.specs.Trees.{Arg, Args, Location, a_location, an_expr, call_form, more_args, no_args, place_arg, place_type, value_arg}
 use Rattle.hl_meaning.specs.Places as places
 use Rattle.hl_meaning.specs.Places.{is_writable_place}
-use Rattle.hl_meaning.specs.WellFormed.{ArePassed, IsDeclared, IsPassed, IsPlace, IsResult, callee_params, callee_result}
+use Rattle.hl_meaning.specs.WellFormed.{ArePassed, IsDeclared, IsPassed, IsPlace, IsResult, callee_params}
 use Rattle.hl_overload.specs.Choice.{Param, add_costs, passing_cost, sum_of_costs}
 use Rattle.hl_rules.specs.ExpressionRules.{is_unwritable, unwritable_arguments}
 use Rattle.hl_rules.specs.Expressions.{function_code, passed_arg, passed_args}

@@ -1,5 +1,5 @@
 -- `?:` becomes what is known of it.
-use Rattle.std.proofs.Common.{◌≡◌, refl, sym, ap, subst, arith, ℕ, ◌≤◌, Bool, true, false, None, Some, le_trans}
+use Rattle.std.proofs.Common.{◌≡◌, refl, arith, ℕ, ◌≤◌, true, Some, le_trans}
 use Rattle.std.specs.Prelude.{min}
 use Rattle.hl_meaning.specs.declared.ty.Kind.{Kind}
 use Rattle.hl_meaning.specs.declared.ty.Kind.TheVariants.{Bool as BoolKind}

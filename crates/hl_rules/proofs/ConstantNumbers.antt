@@ -1,5 +1,5 @@
 -- Constant numbers are words of 32 bits.
-use Rattle.std.proofs.Common.{◌≡◌, ◌∙◌, refl, sym, ap, subst, arith, ℕ, ◌+◌, ◌-◌, ◌*◌, ◌≤◌, Bool, true, false, if◌then◌else◌, nat_le, List, Option, None, Some, le_trans, sub-le}
+use Rattle.std.proofs.Common.{◌≡◌, refl, subst, ℕ, ◌+◌, ◌-◌, ◌*◌, ◌≤◌, true, if◌then◌else◌, nat_le, Option, None, Some, le_trans, sub-le}
 use Rattle.std.proofs.lemmas.Bool.{leb-true}
 use Rattle.std.proofs.lemmas.Option.{cond_some, same_Some}
 use Rattle.hl_lexer.specs.declared.terminal.Terminal.{Terminal}

@@ -1,12 +1,12 @@
 -- Members and swizzles become what is known of them.
-use Rattle.std.proofs.Common.{◌≡◌, ◌∙◌, refl, sym, ap, subst, arith, ℕ, suc, ◌≤◌, Bool, true, false, if◌then◌else◌, nat_le, nat_lt, List, [], ◌∷◌, length, position, Option, None, Some}
+use Rattle.std.proofs.Common.{◌≡◌, ◌∙◌, refl, sym, ap, subst, ℕ, suc, ◌≤◌, Bool, true, false, if◌then◌else◌, nat_le, nat_lt, List, [], ◌∷◌, length, position, Option, None, Some}
 use Rattle.std.specs.Prelude.{◌==◌, bytes_eq, codes, find, is_none, option_and_then, option_map, slice_get}
 use Rattle.std.specs.List.{list_all}
 use Rattle.std.proofs.lemmas.Bool.{leb-true}
 use Rattle.std.proofs.lemmas.Option.{cond_some, option_and_then_some, same_Some}
 use Rattle.hl_meaning.specs.declared.ty.Kind.{Kind}
 use Rattle.hl_meaning.specs.Types.{Ty, array_type, components_type, is_void, scalar_type, struct_type, vector_type, void_type}
-use Rattle.hl_meaning.specs.Trees.{PathPart, PathParts, member_part, swizzle_part}
+use Rattle.hl_meaning.specs.Trees.{member_part, swizzle_part}
 use Rattle.hl_meaning.specs.Places as places
 use Rattle.hl_meaning.specs.Places.{part_type}
 use Rattle.hl_meaning.specs.WellFormed.{IsDeclared}
@@ -16,7 +16,7 @@ use Rattle.hl_rules.specs.Nodes.{Code, type_of_code}
 use Rattle.hl_rules.specs.Scopes.{MemberInfo, Scope, StructInfo}
 use Rattle.hl_rules.specs.Values.{Standing, a_place, dotted_value, letters_in, letters_within, member_number, member_type, members_of, merged_letters, no_place, stepped, swizzle_letters, swizzle_value, swizzled, unclear, value}
 use Rattle.hl_rules.proofs.Becoming.{Agrees, Becomes}
-use Rattle.hl_rules.proofs.Fitting.{Fits, FitsStructs, IsCode, IsKnown}
+use Rattle.hl_rules.proofs.Fitting.{Fits, IsCode, IsKnown}
 use Rattle.hl_rules.proofs.PathSteps.{last-member, last-swizzle}
 use Rattle.hl_rules.proofs.Searching.{IsFirst, position-first}
 use Rattle.hl_rules.proofs.ShortTypes.{components-short, short-declared}

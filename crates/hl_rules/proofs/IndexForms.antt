@@ -1,12 +1,12 @@
 -- Indexes become what is known of them.
-use Rattle.std.proofs.Common.{◌≡◌, ◌∙◌, refl, sym, ap, subst, arith, ℕ, ◌<◌, ◌≤◌, ◌^◌, Bool, true, false, ◌&&◌, if◌then◌else◌, nat_le, nat_lt, List, [], ◌∷◌, Option, None, Some}
+use Rattle.std.proofs.Common.{◌≡◌, ◌∙◌, refl, sym, ap, subst, arith, ℕ, ◌≤◌, Bool, true, false, ◌&&◌, if◌then◌else◌, nat_le, nat_lt, [], ◌∷◌, Option, None, Some}
 use Rattle.std.specs.Prelude.{is_none, option_map, slice_index_or}
 use Rattle.hl_lexer.specs.Numbers.{greatest_number}
 use Rattle.hl_meaning.specs.declared.ty.Kind.{Kind}
 use Rattle.hl_meaning.specs.Types.{Ty, array_type, is_scalar, scalar_type, struct_type, uint_type, vector_type, void_type}
 use Rattle.hl_meaning.specs.Conversions.{converts}
 use Rattle.hl_meaning.specs.Operators.{unary_type}
-use Rattle.hl_meaning.specs.Trees.{Expr, Form, PathPart, PathParts, an_expr, index_part, literal_form, type_of, unary_form}
+use Rattle.hl_meaning.specs.Trees.{Expr, an_expr, index_part, literal_form, type_of}
 use Rattle.hl_meaning.specs.Places as places
 use Rattle.hl_meaning.specs.Places.{is_index_within, is_literal, part_type}
 use Rattle.hl_meaning.specs.WellFormed.{IsDeclared, IsExpr, IsResult}
@@ -14,7 +14,7 @@ use Rattle.hl_rules.specs.ExpressionRules.{is_past, needs_constant_index}
 use Rattle.hl_rules.specs.Expressions.{index_expr, indexed_into, no_literal}
 use Rattle.hl_rules.specs.Nodes.{Code, converted_code, type_of_code, value_of_code}
 use Rattle.hl_rules.specs.Scopes.{Scope}
-use Rattle.hl_rules.specs.Values.{Standing, a_place, indexed, indexed_value, is_longer, no_place, stepped, unclear, value}
+use Rattle.hl_rules.specs.Values.{Standing, a_place, indexed, indexed_value, is_longer, no_place, stepped, unclear}
 use Rattle.hl_rules.proofs.Becoming.{Agrees, Becomes, IsConverted, IsValueIn, code-stands, converted-there, expr-result}
 use Rattle.hl_rules.proofs.Fitting.{Fits, IsCode}
 use Rattle.hl_rules.proofs.PathSteps.{last-index, last-number}

@@ -1,5 +1,5 @@
 -- Calls of intrinsic functions become what is known of them.
-use Rattle.std.proofs.Common.{◌≡◌, ◌∙◌, refl, sym, ap, subst, ℕ, Bool, true, false, List, [], ◌∷◌, map, Option, None, Some}
+use Rattle.std.proofs.Common.{◌≡◌, refl, sym, subst, ℕ, false, List, [], ◌∷◌, map, Option, None, Some}
 use Rattle.std.specs.Prelude.{is_none, option_and_then, option_map}
 use Rattle.hl_meaning.specs.declared.intrinsic.Signature.{Signature}
 use Rattle.hl_meaning.specs.Types.{Ty}

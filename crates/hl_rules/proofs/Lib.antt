@@ -40,3 +40,5 @@ pub mod OperatorSites
 pub mod WriteSites
 pub mod PostfixSites
 pub mod IndexSites
+pub mod CallSites
+pub mod ExpressionForms

@@ -2,17 +2,16 @@
 use Rattle.std.proofs.Common.{◌≡◌, ◌∙◌, refl, sym, ap, subst, ℕ, Bool, true, false, not, if◌then◌else◌, List, [], Option, None, Some}
 use Rattle.std.specs.Prelude.{◌==◌, is_none, option_and_then, option_map, slice_get}
 use Rattle.hl_meaning.specs.Types.{Ty, uint_type}
-use Rattle.hl_meaning.specs.Trees.{Expr, Location, Root, a_location, constant_root, element_root, no_parts, shared_root, type_of, variable_root}
+use Rattle.hl_meaning.specs.Trees.{Expr, Root, a_location, constant_root, element_root, no_parts, shared_root, type_of, variable_root}
 use Rattle.hl_meaning.specs.Places as places
 use Rattle.hl_meaning.specs.Places.{element_type, is_atomic_root, is_writable, is_writable_root, path_type, reached_type, root_type}
-use Rattle.hl_meaning.specs.Programs.{Resource}
 use Rattle.hl_meaning.specs.WellFormed.{IsExpr, IsRoot}
 use Rattle.hl_rules.specs.DeclarationRules.{is_other_sort, is_variable_sort}
-use Rattle.hl_rules.specs.Expressions.{element_if, element_place, variable_code}
-use Rattle.hl_rules.specs.Nodes.{Code, a_place_code}
+use Rattle.hl_rules.specs.Expressions.{element_place, variable_code}
+use Rattle.hl_rules.specs.Nodes.{a_place_code}
 use Rattle.hl_rules.specs.Scopes.{BufferInfo, Scope, Sort, VariableInfo, a_buffer_name, a_function_name, a_struct_name, a_variable_name, sort_of}
 use Rattle.hl_rules.specs.Values.{a_place, element_value, is_shared_root, sort_value, value}
-use Rattle.hl_rules.proofs.Becoming.{Becomes, IsValueIn, not-true}
+use Rattle.hl_rules.proofs.Becoming.{Becomes, IsValueIn}
 use Rattle.hl_rules.proofs.Fitting.{Fits, FitsBuffer, FitsVariable, IsKnown, IsStanding, is_element_root}
 
 -- ---- names

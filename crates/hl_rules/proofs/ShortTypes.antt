@@ -1,6 +1,6 @@
 -- Scalars and vectors of two to four components, which every program has; and the types of what a type is made of.
-use Rattle.std.proofs.Common.{◌≡◌, ◌∙◌, refl, sym, ap, subst, arith, ℕ, ◌≤◌, ◌*◌, Bool, true, false, if◌then◌else◌, List, le_trans, le-mul_of_pos_right, mul_comm}
-use Rattle.std.specs.Prelude.{◌==◌, min}
+use Rattle.std.proofs.Common.{◌≡◌, refl, subst, arith, ℕ, ◌≤◌, ◌*◌, Bool, true, false, if◌then◌else◌, List, le_trans, le-mul_of_pos_right, mul_comm}
+use Rattle.std.specs.Prelude.{◌==◌}
 use Rattle.hl_meaning.specs.declared.ty.Kind.{Kind}
 use Rattle.hl_meaning.specs.Types.{Ty, array_type, components_type, is_basic, is_void, scalar_type, struct_type, vector_type, void_type, with_kind}
 use Rattle.hl_meaning.specs.Layout.{words_of}

@@ -1,16 +1,16 @@
 -- Steps into something: members, swizzles and indexes.
-use Rattle.std.proofs.Common.{◌≡◌, ◌∙◌, refl, sym, ap, subst, ℕ, Bool, true, false, not, if◌then◌else◌, List, [], ◌∷◌, length, Option, None, Some}
-use Rattle.std.specs.Prelude.{option_and_then, slice_index_or}
+use Rattle.std.proofs.Common.{◌≡◌, ◌∙◌, refl, sym, ap, subst, ℕ, Bool, true, false, not, List, length, Some}
+use Rattle.std.specs.Prelude.{option_and_then}
 use Rattle.hl_meaning.specs.declared.ty.Kind.{Kind}
 use Rattle.hl_meaning.specs.Types.{Ty, vector_type}
-use Rattle.hl_meaning.specs.Trees.{Expr, Form, Location, PathPart, PathParts, Root, a_location, an_expr, more_parts, no_parts, pick_form, type_of}
+use Rattle.hl_meaning.specs.Trees.{Expr, PathPart, PathParts, Root, a_location, an_expr, more_parts, no_parts, pick_form, type_of}
 use Rattle.hl_meaning.specs.Places as places
 use Rattle.hl_meaning.specs.Places.{part_type, path_type, reached_type, root_type}
 use Rattle.hl_meaning.specs.Programs.{StructDef}
 use Rattle.hl_meaning.specs.WellFormed.{IsDeclared, IsExpr, IsPart}
 use Rattle.hl_rules.specs.Nodes.{Code, a_place_code, a_value_code, and_part, type_of_code, with_part}
 use Rattle.hl_rules.specs.Scopes.{Scope}
-use Rattle.hl_rules.specs.Values.{Standing, Value, a_place, is_longer, no_place, unclear, value}
+use Rattle.hl_rules.specs.Values.{Standing, a_place, is_longer, no_place, unclear, value}
 use Rattle.hl_rules.proofs.Becoming.{Agrees, Becomes}
 use Rattle.hl_rules.proofs.Fitting.{Fits, IsCode, IsStanding, last_letters}
 use Rattle.hl_rules.proofs.Paths.{is_picking, path-single}

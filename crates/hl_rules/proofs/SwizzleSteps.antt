@@ -1,21 +1,16 @@
 -- What letters pick, and what picks among them.
-use Rattle.std.proofs.Common.{◌≡◌, ◌∙◌, refl, sym, ap, subst, arith, ℕ, zero, suc, ◌<◌, ◌≤◌, Bool, true, false, ◌&&◌, if◌then◌else◌, nat_le, nat_lt, List, [], ◌∷◌, map, length, Option, None, Some}
-use Rattle.std.specs.Prelude.{◌==◌, option_and_then, slice_index_or}
+use Rattle.std.proofs.Common.{◌≡◌, ◌∙◌, refl, sym, ap, subst, arith, ℕ, zero, suc, ◌≤◌, Bool, true, false, ◌&&◌, if◌then◌else◌, nat_le, nat_lt, List, [], ◌∷◌, map, length, None, Some}
+use Rattle.std.specs.Prelude.{◌==◌, slice_index_or}
 use Rattle.std.specs.List.{list_all}
 use Rattle.std.proofs.lemmas.List.{length-map}
 use Rattle.std.proofs.lemmas.Bool.{and_from, le-leb, leb-true}
-use Rattle.std.proofs.lemmas.Option.{none-some, same_Some}
+use Rattle.std.proofs.lemmas.Option.{same_Some}
 use Rattle.hl_meaning.specs.declared.ty.Kind.{Kind}
 use Rattle.hl_meaning.specs.Types.{Ty, array_type, components_type, scalar_type, struct_type, vector_type, void_type}
-use Rattle.hl_meaning.specs.Trees.{Expr, PathPart, PathParts, an_expr, index_part, literal_form, member_part, more_parts, no_parts, swizzle_part}
-use Rattle.hl_meaning.specs.Places as places
-use Rattle.hl_meaning.specs.Places.{has_literal_indexes, is_end, is_literal, is_longer_swizzle, part_type, path_type, swizzle_type}
+use Rattle.hl_meaning.specs.Trees.{an_expr, index_part, literal_form, swizzle_part}
+use Rattle.hl_meaning.specs.Places.{part_type, swizzle_type}
 use Rattle.hl_meaning.specs.Programs.{StructDef}
-use Rattle.hl_meaning.specs.WellFormed.{AreParts, IsPart}
-use Rattle.hl_rules.specs.Nodes.{and_part, joined}
-use Rattle.hl_rules.specs.Values.{is_longer, merged_letters}
-use Rattle.hl_rules.proofs.Fitting.{last_letters, part_letters}
-use Rattle.hl_rules.proofs.Paths.{IsLong, is_picking, joined-plain, longer-same, path-long, path-more, path-single}
+use Rattle.hl_rules.specs.Values.{is_longer}
 use Rattle.hl_rules.proofs.TypeLemmas.{and-left, and-right}
 
 -- ---- swizzles

@@ -1,10 +1,10 @@
 -- Assignments, and operators that write what they compute.
-use Rattle.std.proofs.Common.{◌≡◌, ◌∙◌, refl, sym, ap, subst, arith, ℕ, Bool, true, false, ◌&&◌, ◌||◌, not, nat_le, List, Option, None, Some}
-use Rattle.std.specs.Prelude.{IsTrue, option_and_then}
+use Rattle.std.proofs.Common.{◌≡◌, ◌∙◌, refl, sym, ap, subst, arith, ℕ, Bool, true, false, ◌||◌, not, nat_le, List, None, Some}
+use Rattle.std.specs.Prelude.{IsTrue}
 use Rattle.std.proofs.lemmas.Bool.{and_from}
 use Rattle.std.proofs.lemmas.Option.{option_and_then_some, same_Some}
 use Rattle.hl_meaning.specs.declared.ty.Kind.TheVariants.{Int as IntKind}
-use Rattle.hl_meaning.specs.Types.{Ty, is_basic, is_numeric, scalar_type}
+use Rattle.hl_meaning.specs.Types.{Ty, is_basic, scalar_type}
 use Rattle.hl_meaning.specs.Conversions.{converts}
 use Rattle.hl_meaning.specs.Operators.{computing, is_among, stepping}
 use Rattle.hl_meaning.specs.Trees.{Expr, Location, PathParts, Root, a_location, an_expr, literal_form, place_type, write_form}
@@ -21,9 +21,9 @@ use Rattle.hl_rules.specs.Source.{terminal_at}
 use Rattle.hl_rules.specs.Values.{a_place, may_be_written, plain_value}
 use Rattle.hl_rules.proofs.Becoming.{Becomes, IsConverted, IsValueIn, converted-there, operand-short}
 use Rattle.hl_rules.proofs.BinaryForms.{IsOperated, operated-there, result_of}
-use Rattle.hl_rules.proofs.Fitting.{Fits, IsStanding, last_letters}
+use Rattle.hl_rules.proofs.Fitting.{Fits, IsStanding}
 use Rattle.hl_rules.proofs.Paths.{distinct-last}
-use Rattle.hl_rules.proofs.ShortTypes.{IsShort, declared-result, result-short, short-declared, short-result}
+use Rattle.hl_rules.proofs.ShortTypes.{IsShort, declared-result, result-short, short-result}
 use Rattle.hl_rules.proofs.TypeLemmas.{and-left, and-right}
 
 -- ---- places

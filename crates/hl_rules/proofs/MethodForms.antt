@@ -60,14 +60,17 @@ load-becomes s at number count buffer trees (v ∷ []) (code ∷ []) there raw l
       is = load-made s at number count trees code c.to c.is;
       type = refl;
       agrees = tt;
-      fits = λ env f.
-          (short-result env.structs (components_type UintKind count) (components-short UintKind count low high),
-          (raw-buffer env number buffer (f.buffers number buffer there) raw,
+      fits = λ env f. (
+        short-result env.structs (components_type UintKind count) (components-short UintKind count low high),
+        (
+          raw-buffer env number buffer (f.buffers number buffer there) raw,
           low,
           high,
           c.stands env (argument-stands s v code h.0 env f) (uint-result env),
           c.type,
-          refl));
+          refl,
+        ),
+      );
     }
 load-becomes s at number count buffer trees [] codes there raw low high h e = absurd (cc e)
 load-becomes s at number count buffer trees (v ∷ w ∷ values) codes there raw low high h e = absurd (cc e)
@@ -88,17 +91,22 @@ store-becomes s at number count buffer trees (v ∷ w ∷ []) (code ∷ other �
       is = store-made s at number count trees code other c.to d.to c.is d.is;
       type = refl;
       agrees = tt;
-      fits = λ env f.
-          (tt,
-          (raw-buffer env number buffer (f.buffers number buffer there) raw,
+      fits = λ env f. (
+        tt,
+        (
+          raw-buffer env number buffer (f.buffers number buffer there) raw,
           low,
           high,
           c.stands env (argument-stands s v code h.0 env f) (uint-result env),
           c.type,
-          (refl,
-          buffer-writes env number buffer (f.buffers number buffer there) writable,
-          d.stands env (argument-stands s w other h.1.0 env f) (short-result env.structs (components_type UintKind count) (components-short UintKind count low high)),
-          d.type)));
+          (
+            refl,
+            buffer-writes env number buffer (f.buffers number buffer there) writable,
+            d.stands env (argument-stands s w other h.1.0 env f) (short-result env.structs (components_type UintKind count) (components-short UintKind count low high)),
+            d.type,
+          ),
+        ),
+      );
     }
 store-becomes s at number count buffer trees [] codes there raw writable low high h e = absurd (cc e)
 store-becomes s at number count buffer trees (v ∷ []) codes there raw writable low high h e = absurd (cc e)

@@ -91,3 +91,5 @@ pub mod WriteForms
 pub mod WriteSites
 pub mod PostfixSites
 pub mod IndexSites
+pub mod CallSites
+pub mod ExpressionForms

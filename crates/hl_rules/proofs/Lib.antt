@@ -88,3 +88,6 @@ pub mod ProgramInduction
 pub mod ProgramForms
 pub mod LexemeForms
 pub mod WholePrograms
+pub mod WriteSites
+pub mod PostfixSites
+pub mod IndexSites

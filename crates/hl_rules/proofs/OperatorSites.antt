@@ -50,7 +50,7 @@ pub known-stands : (s : Scope) (e : Tree) (b : Known s e) → IsValueIn s (value
 known-stands s e b = becomes-stands s (value_of s e) (code_of s e) b
 
 -- what is made of what one becomes
-pub of-one : (s : Scope) (v : Value) (f : Code → Option Code) (code : Option Code) (to : Code) → code ≡ Some to → Becomes s v (f to) → Becomes s v (option_and_then f code)
+pub of-one : {A : Type 0} (s : Scope) (v : Value) (f : A → Option Code) (code : Option A) (to : A) → code ≡ Some to → Becomes s v (f to) → Becomes s v (option_and_then f code)
 of-one s v f code to e h = subst (λ o. Becomes s v (option_and_then f o)) (sym e) h
 
 -- ---- operators

@@ -14,7 +14,7 @@ use Rattle.hl_rules.specs.Elaboration.{declared_constant, declared_variable, res
 use Rattle.hl_rules.specs.Scopes.{BufferInfo, FunctionInfo, Named, Scope, Sort, StructInfo, VariableInfo, a_buffer_name, a_function_name, a_struct_name, named, spelled, with_global}
 use Rattle.hl_rules.specs.Statements.{struct_defs}
 use Rattle.hl_rules.proofs.CalleeForms.{function-fits, function-known}
-use Rattle.hl_rules.proofs.ConstantNumbers.{number-fits}
+use Rattle.hl_rules.proofs.ConstantNumbers.{constant-small}
 use Rattle.hl_rules.proofs.DeclaratorForms.{IsKnownAs}
 use Rattle.hl_rules.proofs.Fitting.{FitsBuffer, FitsFunction, FitsVariable, IsKnown}
 use Rattle.hl_rules.proofs.FunctionEntry.{made_function}

@@ -1,15 +1,15 @@
 -- Behind groupshared variables and constants what is known stands in the program.
-use Rattle.std.proofs.Common.{◌≡◌, ◌∙◌, refl, sym, ap, subst, arith, ℕ, suc, ◌≤◌, Bool, true, false, if◌then◌else◌, List, [], ◌∷◌, ◌++◌, length, Option, None, Some}
-use Rattle.std.specs.Prelude.{option_map, slice_get, unwrap_or}
+use Rattle.std.proofs.Common.{◌≡◌, ◌∙◌, refl, sym, ap, subst, ℕ, suc, ◌≤◌, Bool, true, false, if◌then◌else◌, List, [], ◌∷◌, ◌++◌, Option, None, Some}
+use Rattle.std.specs.Prelude.{option_map, unwrap_or}
 use Rattle.hl_lexer.specs.Numbers.{greatest_number}
-use Rattle.hl_parser.specs.Trees.{Tree, Trees, absent, an_init, at_of, present}
+use Rattle.hl_parser.specs.Trees.{Tree, an_init, at_of, present}
 use Rattle.hl_meaning.specs.Programs.{Constant, FunctionDef, Resource, StructDef, Variable}
 use Rattle.hl_meaning.specs.Trees.{constant_root, shared_root}
 use Rattle.hl_meaning.specs.Types.{Ty, void_type}
-use Rattle.hl_rules.specs.Constants.{constant_number, declarator_type}
+use Rattle.hl_rules.specs.Constants.{declarator_type}
 use Rattle.hl_rules.specs.Declarations.{constant_value, init_number, is_number_type, variable, with_constant, with_shared}
 use Rattle.hl_rules.specs.Elaboration.{declared_constant, declared_variable}
-use Rattle.hl_rules.specs.Scopes.{Named, Scope, Sort, VariableInfo, named, spelled, with_global}
+use Rattle.hl_rules.specs.Scopes.{Scope, named, spelled, with_global}
 use Rattle.hl_rules.specs.Statements.{struct_defs}
 use Rattle.hl_rules.proofs.ConstantNumbers.{constant-small}
 use Rattle.hl_rules.proofs.DeclaratorForms.{IsKnownAs}
@@ -52,8 +52,8 @@ module _ (structs : List StructDef) (resources : List Resource) (shared : List V
   pub stands-shared : (ty : Option Ty) (declarator : Tree) (behind : List Variable) → IsKnownAs s (declarator_type s ty declarator) → shared ≡ ss ++ declared_variable s ty declarator ∷ behind → Stands (program_env structs resources shared constants) (with_shared ty s declarator) rs (ss ++ declared_variable s ty declarator ∷ []) cs fs
   stands-shared ty declarator behind known e = record {
     sound =
-      sound-counts (with_global (named (spelled s (at_of declarator)) (variable (shared_root s.shared) (declarator_type s ty declarator) false None)) s) (suc s.shared) s.constants
-      (sound-global (named (spelled s (at_of declarator)) (variable (shared_root s.shared) (declarator_type s ty declarator) false None)) s stands.sound ((known.type, known.is), λ number h. absurd (cc h)));
+        sound-counts (with_global (named (spelled s (at_of declarator)) (variable (shared_root s.shared) (declarator_type s ty declarator) false None)) s) (suc s.shared) s.constants
+        (sound-global (named (spelled s (at_of declarator)) (variable (shared_root s.shared) (declarator_type s ty declarator) false None)) s stands.sound ((known.type, known.is), λ number h. absurd (cc h)));
     outside = stands.outside;
     resources = stands.resources;
     shared = length-push ss (declared_variable s ty declarator) s.shared stands.shared;
@@ -77,9 +77,9 @@ module _ (structs : List StructDef) (resources : List Resource) (shared : List V
   pub stands-constant : (ty : Option Ty) (declarator init : Tree) (behind : List Constant) → IsKnownAs s (declarator_type s ty declarator) → constants ≡ cs ++ declared_constant s ty declarator init ∷ behind → Stands (program_env structs resources shared constants) (with_constant s (declarator_type s ty declarator) declarator init) rs ss (cs ++ declared_constant s ty declarator init ∷ []) fs
   stands-constant ty declarator init behind known e = record {
     sound =
-      sound-counts (with_global (named (spelled s (at_of declarator)) (variable (constant_root s.constants) (declarator_type s ty declarator) true (constant_value s (declarator_type s ty declarator) init))) s) s.shared (suc s.constants)
-      (sound-global (named (spelled s (at_of declarator)) (variable (constant_root s.constants) (declarator_type s ty declarator) true (constant_value s (declarator_type s ty declarator) init))) s stands.sound
-      ((known.type, known.is), λ number h. value-fits s stands.sound.known (declarator_type s ty declarator) init number h));
+        sound-counts (with_global (named (spelled s (at_of declarator)) (variable (constant_root s.constants) (declarator_type s ty declarator) true (constant_value s (declarator_type s ty declarator) init))) s) s.shared (suc s.constants)
+        (sound-global (named (spelled s (at_of declarator)) (variable (constant_root s.constants) (declarator_type s ty declarator) true (constant_value s (declarator_type s ty declarator) init))) s stands.sound
+        ((known.type, known.is), λ number h. value-fits s stands.sound.known (declarator_type s ty declarator) init number h));
     outside = stands.outside;
     resources = stands.resources;
     shared = stands.shared;

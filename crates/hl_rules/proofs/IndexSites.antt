@@ -15,7 +15,7 @@ use Rattle.hl_rules.specs.Parts.{Site, an_index, site}
 use Rattle.hl_rules.specs.Scopes.{BufferInfo, Scope, Sort, a_buffer_name, a_function_name, a_struct_name, a_variable_name, sort_at, spelled}
 use Rattle.hl_rules.specs.Sites.{buffer_or_used, expression_sites, used}
 use Rattle.hl_rules.specs.Source.{terminal_at}
-use Rattle.hl_rules.specs.Values.{bracketed_value, buffer_at, buffer_named, buffer_sort, buffer_word, element_value, indexed_value, standing_in, type_in, value_of, is_known}
+use Rattle.hl_rules.specs.Values.{is_known, bracketed_value, buffer_at, buffer_named, buffer_sort, buffer_word, element_value, indexed_value, standing_in, type_in, value_of}
 use Rattle.hl_rules.proofs.Becoming.{Becomes, IsValueIn, not-true}
 use Rattle.hl_rules.proofs.ConstantNumbers.{number-fits}
 use Rattle.hl_rules.proofs.Fitting.{IsKnown}

@@ -7,7 +7,7 @@ use Rattle.hl_parser.specs.Trees.{Tree, Trees, a_postfix, absent, an_args, prese
 use Rattle.hl_meaning.specs.Types.{Ty, is_void}
 use Rattle.hl_rules.specs.declared.interlocked.Method.{Method}
 use Rattle.hl_rules.specs.ExpressionRules.{is_no_member, is_no_method, is_no_swizzle}
-use Rattle.hl_rules.specs.Expressions.{first_number, first_at, code_of, codes_of, dotted_code, method_call_code, method_code}
+use Rattle.hl_rules.specs.Expressions.{code_of, codes_of, dotted_code, first_at, first_number, method_call_code, method_code}
 use Rattle.hl_rules.specs.Intrinsics.{method_of}
 use Rattle.hl_rules.specs.Nodes.{Code, type_of_code}
 use Rattle.hl_rules.specs.Parts.{Site, a_dot, a_method_call, site}

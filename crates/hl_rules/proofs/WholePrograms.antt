@@ -13,6 +13,7 @@ use Rattle.hl_rules.specs.Parts.{Site}
 use Rattle.hl_rules.specs.Rules.{BreaksNothing, broken_by, broken_in}
 use Rattle.hl_rules.specs.Sites.{program_sites}
 use Rattle.hl_rules.specs.Source.{terminals_of}
+use Rattle.hl_rules.proofs.ExpressionForms.{expression-becomes}
 use Rattle.hl_rules.proofs.Free.{IsFree}
 use Rattle.hl_rules.proofs.Gathering.{flat-among}
 use Rattle.hl_rules.proofs.LexemeForms.{tokens-known}
@@ -40,3 +41,6 @@ free_is_well_formed claim text tokens end tree entry list spelled none =
   where
     on : IsMadeProgram (program_of tokens entry tree) → (program : Program) × (program_of tokens entry tree ≡ Some program) × IsWellFormed program
     on made = (made.program, made.is, made.well_formed)
+
+pub whole_law : FreeIsWellFormed
+whole_law = free_is_well_formed (λ s e known. expression-becomes s known e)

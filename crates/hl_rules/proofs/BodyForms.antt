@@ -1,32 +1,28 @@
 -- What is known in the body of a function that breaks no rule, and that it stands in the program.
-use Rattle.std.proofs.Common.{◌≡◌, ◌∙◌, ◌⊎◌, inl, inr, refl, sym, ap, subst, arith, ℕ, ◌+◌, ◌≤◌, Bool, true, false, List, [], ◌∷◌, ◌++◌, length, Option, None, Some}
+use Rattle.std.proofs.Common.{◌≡◌, ◌∙◌, ◌⊎◌, inl, inr, refl, sym, ap, subst, arith, ℕ, false, List, [], ◌∷◌, ◌++◌, length, Option, Some}
 use Rattle.std.specs.Prelude.{◌==◌, slice_get}
-use Rattle.hl_parser.specs.Trees.{Tree, Trees, no_trees}
+use Rattle.hl_parser.specs.Trees.{Tree, Trees}
 use Rattle.hl_meaning.specs.Places as places
 use Rattle.hl_meaning.specs.Programs.{Constant, FunctionDef, Resource, StructDef, Variable}
 use Rattle.hl_meaning.specs.Types.{Ty, void_type}
 use Rattle.hl_rules.specs.Constants.{result_type}
-use Rattle.hl_rules.specs.Declarations.{after_params, at_params, function_info, in_body}
+use Rattle.hl_rules.specs.Declarations.{after_params, at_params, function_info}
 use Rattle.hl_rules.specs.Elaboration.{param_variables}
-use Rattle.hl_rules.specs.Scopes.{BufferInfo, FunctionInfo, Scope, a_function_name, a_variable_name, named, spelled, with_global}
-use Rattle.hl_rules.specs.Sites.{params_sites}
+use Rattle.hl_rules.specs.Scopes.{FunctionInfo, Scope, a_function_name, a_variable_name, named, spelled}
 use Rattle.hl_rules.specs.Statements.{struct_defs}
 use Rattle.hl_rules.proofs.CalleeForms.{function-known}
-use Rattle.hl_rules.proofs.DeclaratorForms.{IsKnownAs, IsKnownResult}
-use Rattle.hl_rules.proofs.Fitting.{Fits, FitsFunction, FitsStructs, IsKnownFunction, is_inside}
-use Rattle.hl_rules.proofs.Free.{IsFree}
+use Rattle.hl_rules.proofs.DeclaratorForms.{IsKnownResult}
+use Rattle.hl_rules.proofs.Fitting.{Fits, FitsFunction, FitsStructs, IsKnownFunction}
 use Rattle.hl_rules.proofs.FunctionNames.{and_function}
 use Rattle.hl_rules.proofs.GlobalForms.{get-push, sound-function_name}
 use Rattle.hl_rules.proofs.JumpForms.{IsInBody}
-use Rattle.hl_rules.proofs.LocalForms.{AreKnownVariables, IsDeclaring, params-declare}
-use Rattle.hl_rules.proofs.ParamForms.{AreTypedParams, sound-params, typed-params}
-use Rattle.hl_rules.proofs.ProgramScopes.{Stands, body-scope, body_env, buffer-moved, callee-moved, program_env, sort-moved}
-use Rattle.hl_rules.proofs.ScopeForms.{AllSorts, FitSort, FitsNames, HoldsPart, sorts-global, sorts-outside}
+use Rattle.hl_rules.proofs.LocalForms.{IsDeclaring}
+use Rattle.hl_rules.proofs.ParamForms.{AreTypedParams}
+use Rattle.hl_rules.proofs.ProgramScopes.{Stands, body_env, buffer-moved, callee-moved, program_env, sort-moved}
+use Rattle.hl_rules.proofs.ScopeForms.{FitSort, FitsNames, sorts-global, sorts-outside}
 use Rattle.hl_rules.proofs.Soundness.{IsSound}
 use Rattle.hl_rules.proofs.StructFitting.{structs-fit}
 use Rattle.hl_rules.proofs.StructForms.{IsKnownType, known_words}
-use Rattle.hl_rules.proofs.TreeShapes.{AllTrees, IsParam}
-use Rattle.hl_rules.proofs.VariableCounts.{IsBehind}
 
 -- a scope behind parameters, with the name of a function
 abbrev pub inner_scope : Scope → (s : Scope) (result : Tree) (name : ℕ) (params : Trees) → Scope

@@ -1,41 +1,28 @@
 -- Functions that break no rule keep what the functions of a program keep.
-use Rattle.std.proofs.Common.{◌≡◌, ◌∙◌, ◌⊎◌, inl, inr, refl, sym, ap, subst, arith, ℕ, suc, ◌+◌, ◌≤◌, Bool, true, false, not, List, [], ◌∷◌, ◌++◌, length, Option, None, Some, length-append}
-use Rattle.std.specs.Prelude.{◌&&◌, ◌||◌, IsTrue, option_and_then, unwrap_or}
+use Rattle.std.proofs.Common.{◌≡◌, ◌∙◌, refl, sym, ap, ℕ, suc, ◌≤◌, Bool, true, false, not, List, length, Some}
+use Rattle.std.specs.Prelude.{◌&&◌, ◌||◌, IsTrue}
 use Rattle.std.specs.List.{All}
-use Rattle.std.proofs.lemmas.List.{append-nil}
-use Rattle.std.proofs.lemmas.List.Elements.{All-append}
 use Rattle.hl_lexer.specs.Tokens.{Lexeme}
 use Rattle.hl_parser.specs.Trees.{Tree, Trees, a_block, a_param, a_result, absent, more_trees, no_trees, present}
 use Rattle.hl_meaning.specs.Places as places
-use Rattle.hl_meaning.specs.Programs.{Constant, FunctionDef, Resource, StructDef, Variable}
-use Rattle.hl_meaning.specs.Trees.{Stmts}
+use Rattle.hl_meaning.specs.Programs.{FunctionDef, StructDef, Variable}
 use Rattle.hl_meaning.specs.Types.{Ty, is_void, void_type}
 use Rattle.hl_meaning.specs.WellFormed.{AreNumberedFrom, AreStmts, IsDeclared, IsResult, one_returns}
 use Rattle.hl_rules.specs.Constants.{result_type}
 use Rattle.hl_rules.specs.DeclarationRules.{always_returns, is_no_result}
-use Rattle.hl_rules.specs.Declarations.{after_param, after_params, at_params, in_body}
-use Rattle.hl_rules.specs.Elaboration.{body_code, body_variables, function_def, param_variables, parameters_from}
-use Rattle.hl_rules.specs.Expressions.{with_two}
+use Rattle.hl_rules.specs.Declarations.{after_param}
+use Rattle.hl_rules.specs.Elaboration.{body_code, body_variables, param_variables, parameters_from}
 use Rattle.hl_rules.specs.Scopes.{Scope}
-use Rattle.hl_rules.specs.Sites.{body_sites, is_entry}
-use Rattle.hl_rules.specs.Statements.{struct_defs}
-use Rattle.hl_rules.proofs.BodyForms.{inner-fits, inner-known, inner_env, inner_scope}
-use Rattle.hl_rules.proofs.CalleeForms.{known-result}
-use Rattle.hl_rules.proofs.DeclaratorForms.{IsKnownResult, result-known}
-use Rattle.hl_rules.proofs.Fitting.{Fits}
-use Rattle.hl_rules.proofs.Free.{IsFree, not_broken}
-use Rattle.hl_rules.proofs.FunctionEntry.{IsFreeFunction, made_function}
+use Rattle.hl_rules.specs.Sites.{body_sites}
+use Rattle.hl_rules.proofs.Free.{IsFree}
 use Rattle.hl_rules.proofs.JumpForms.{IsInBody}
-use Rattle.hl_rules.proofs.LocalForms.{AreKnownVariables, IsDeclaring, params-declare}
+use Rattle.hl_rules.proofs.LocalForms.{AreKnownVariables}
 use Rattle.hl_rules.proofs.Options.{not-false, some-same}
-use Rattle.hl_rules.proofs.ParamForms.{AreTypedParams, sound-params, typed-params}
-use Rattle.hl_rules.proofs.ProgramScopes.{Stands, body-scope, body_env, program_env}
-use Rattle.hl_rules.proofs.ScopeForms.{HoldsPart}
-use Rattle.hl_rules.proofs.Soundness.{IsSound}
+use Rattle.hl_rules.proofs.ProgramScopes.{body_env}
 use Rattle.hl_rules.proofs.StatementForms.{statements-made}
 use Rattle.hl_rules.proofs.StatementParts.{IsMade}
-use Rattle.hl_rules.proofs.StructForms.{IsKnownType, declared-known, known_words}
-use Rattle.hl_rules.proofs.TreeShapes.{AllTrees, IsBlock, IsParam, IsResultOf}
+use Rattle.hl_rules.proofs.StructForms.{IsKnownType}
+use Rattle.hl_rules.proofs.TreeShapes.{AllTrees, IsBlock, IsParam}
 use Rattle.hl_rules.proofs.ValueForms.{ExpressionsBecome}
 
 -- what a function of a program keeps behind these functions

@@ -1,10 +1,8 @@
 -- A function that breaks no rule becomes a function of the program, and is known behind it.
-use Rattle.std.proofs.Common.{◌≡◌, ◌∙◌, ◌⊎◌, inl, inr, refl, sym, ap, subst, arith, ℕ, suc, ◌+◌, ◌<◌, ◌≤◌, Bool, true, false, not, List, [], ◌∷◌, ◌++◌, length, Option, None, Some, length-append}
-use Rattle.std.specs.Prelude.{◌&&◌, option_and_then, slice_get}
-use Rattle.std.specs.List.{All}
+use Rattle.std.proofs.Common.{◌≡◌, ◌∙◌, sym, ap, subst, arith, ℕ, false, not, List, [], ◌++◌, Some, length-append}
+use Rattle.std.specs.Prelude.{◌&&◌}
 use Rattle.std.proofs.lemmas.List.{append-nil}
 use Rattle.std.proofs.lemmas.List.Elements.{All-append}
-use Rattle.std.proofs.lemmas.Option.{slice_get_within}
 use Rattle.hl_parser.specs.Trees.{Tree, Trees, no_trees}
 use Rattle.hl_meaning.specs.Places as places
 use Rattle.hl_meaning.specs.Programs.{Constant, FunctionDef, Resource, StructDef, Variable}
@@ -13,26 +11,24 @@ use Rattle.hl_meaning.specs.Types.{Ty, is_void}
 use Rattle.hl_meaning.specs.WellFormed.{AreStmts, IsDeclared, one_returns}
 use Rattle.hl_rules.specs.Constants.{result_type}
 use Rattle.hl_rules.specs.DeclarationRules.{always_returns, is_no_result}
-use Rattle.hl_rules.specs.Declarations.{after_params, at_params, function_info, in_body, with_function}
-use Rattle.hl_rules.specs.Elaboration.{body_code, body_variables, function_def, param_variables, parameters_from}
+use Rattle.hl_rules.specs.Declarations.{after_params, at_params, in_body}
+use Rattle.hl_rules.specs.Elaboration.{body_code, body_variables, function_def, param_variables}
 use Rattle.hl_rules.specs.Expressions.{with_two}
-use Rattle.hl_rules.specs.Scopes.{FunctionInfo, Scope, a_function_name, named, spelled}
+use Rattle.hl_rules.specs.Scopes.{Scope}
 use Rattle.hl_rules.specs.Sites.{is_entry}
 use Rattle.hl_rules.specs.Statements.{struct_defs}
-use Rattle.hl_rules.proofs.BodyForms.{inner-fits, inner-known, inner_env, inner_scope}
-use Rattle.hl_rules.proofs.CalleeForms.{function-fits, function-known, known-result}
+use Rattle.hl_rules.proofs.BodyForms.{inner-fits, inner-known, inner_env}
+use Rattle.hl_rules.proofs.CalleeForms.{known-result}
 use Rattle.hl_rules.proofs.DeclaratorForms.{IsKnownResult, result-known}
-use Rattle.hl_rules.proofs.Fitting.{Fits, FitsFunction}
+use Rattle.hl_rules.proofs.Fitting.{Fits}
 use Rattle.hl_rules.proofs.Free.{not_broken}
 use Rattle.hl_rules.proofs.FunctionEntry.{IsFreeFunction, made_function}
 use Rattle.hl_rules.proofs.FunctionForms.{IsFunctionBehind, body-made, declared-variables, numbered-from, returns-there, same-count, void-result}
-use Rattle.hl_rules.proofs.GlobalForms.{get-push, sound-function_name}
 use Rattle.hl_rules.proofs.JumpForms.{IsInBody}
-use Rattle.hl_rules.proofs.LayoutForms.{get-front, get-next}
 use Rattle.hl_rules.proofs.LocalForms.{IsDeclaring, params-declare}
 use Rattle.hl_rules.proofs.ParamForms.{AreTypedParams, sound-params, typed-params}
 use Rattle.hl_rules.proofs.ProgramScopes.{Stands, body-scope, program_env}
-use Rattle.hl_rules.proofs.ScopeForms.{AllSorts, FitSort, HoldsPart, sorts-global}
+use Rattle.hl_rules.proofs.ScopeForms.{HoldsPart}
 use Rattle.hl_rules.proofs.StatementParts.{IsMade}
 use Rattle.hl_rules.proofs.StructForms.{IsKnownType, declared-known, known_words}
 use Rattle.hl_rules.proofs.TreeShapes.{AllTrees, IsBlock, IsParam, IsResultOf}

@@ -1,5 +1,5 @@
 -- A program that breaks no rule becomes one, and it is well formed.
-use Rattle.std.proofs.Common.{◌≡◌, ◌∙◌, refl, sym, ap, subst, ℕ, zero, suc, ◌<◌, List, [], ◌∷◌, ◌++◌, length, take, Option, None, Some, append_assoc}
+use Rattle.std.proofs.Common.{◌≡◌, ◌∙◌, refl, sym, ap, subst, ℕ, zero, suc, List, [], ◌∷◌, ◌++◌, length, take, Option, Some, append_assoc}
 use Rattle.std.specs.Prelude.{option_and_then, slice_get, unwrap_or}
 use Rattle.std.proofs.lemmas.List.{append-nil}
 use Rattle.hl_lexer.specs.Tokens.{Lexeme}
@@ -9,7 +9,7 @@ use Rattle.hl_meaning.specs.Programs.{Constant, FunctionDef, Program, Resource, 
 use Rattle.hl_meaning.specs.WellFormed.{IsEntryIf, IsFunction, IsWellFormed}
 use Rattle.hl_rules.specs.Elaboration.{after_items, all_of_items, entry_number, item_constants, item_functions, item_resources, item_shared, item_threads, items_program, of_items, one_of, program_of}
 use Rattle.hl_rules.specs.Expressions.{with_three}
-use Rattle.hl_rules.specs.Scopes.{Scope, first_scope}
+use Rattle.hl_rules.specs.Scopes.{first_scope}
 use Rattle.hl_rules.specs.Sites.{items_sites, program_sites}
 use Rattle.hl_rules.specs.Statements.{struct_defs}
 use Rattle.hl_rules.proofs.Fitting.{AreTokens}

@@ -1,22 +1,22 @@
 -- Items that break no rule keep what a program keeps: by induction over the items.
-use Rattle.std.proofs.Common.{◌≡◌, ◌∙◌, refl, sym, ap, subst, ℕ, List, [], ◌∷◌, ◌++◌, length, Option, None, Some, append_assoc}
+use Rattle.std.proofs.Common.{◌≡◌, ◌∙◌, refl, sym, subst, ℕ, List, [], ◌∷◌, ◌++◌, Option, append_assoc}
 use Rattle.std.proofs.lemmas.List.Elements.{All-nil}
 use Rattle.hl_parser.specs.Trees.{Tree, Trees, a_buffer, a_constant, a_function, a_shared, a_struct, an_item, at_of, more_trees, no_trees}
 use Rattle.hl_meaning.specs.Programs.{Constant, FunctionDef, Resource, StructDef, Variable}
 use Rattle.hl_meaning.specs.WellFormed.{IsConstant, IsDeclared, IsResource}
 use Rattle.hl_rules.specs.Constants.{declarator_type, named_type}
-use Rattle.hl_rules.specs.Declarations.{after_item, buffer_info, struct_info, with_function}
-use Rattle.hl_rules.specs.Elaboration.{after_items, declared_constant, declared_shared, item_constants, item_resources, item_shared, of_items, resource}
-use Rattle.hl_rules.specs.Parts.{a_global_name, a_whole_struct, site}
+use Rattle.hl_rules.specs.Declarations.{after_item, buffer_info, with_function}
+use Rattle.hl_rules.specs.Elaboration.{declared_constant, declared_shared, item_constants, item_resources, item_shared, of_items, resource}
+use Rattle.hl_rules.specs.Parts.{a_global_name, site}
 use Rattle.hl_rules.specs.Scopes.{Scope}
-use Rattle.hl_rules.specs.Sites.{constant_sites, declarator_sites, element_sites, item_sites, items_sites, register_sites, shared_sites, type_sites}
+use Rattle.hl_rules.specs.Sites.{constant_sites, declarator_sites, element_sites, item_sites, register_sites, shared_sites, type_sites}
 use Rattle.hl_rules.specs.Statements.{struct_defs}
 use Rattle.hl_rules.proofs.ConstantItems.{constant-kept}
-use Rattle.hl_rules.proofs.DeclaratorForms.{IsKnownAs, declarator-known, named-known}
+use Rattle.hl_rules.proofs.DeclaratorForms.{declarator-known, named-known}
 use Rattle.hl_rules.proofs.EntryForms.{free-item, free-items}
 use Rattle.hl_rules.proofs.Free.{IsFree, free-left, free-rest, free-right}
 use Rattle.hl_rules.proofs.FunctionEntry.{free-function, made_function}
-use Rattle.hl_rules.proofs.FunctionItems.{IsFunctionThere, function-there}
+use Rattle.hl_rules.proofs.FunctionItems.{function-there}
 use Rattle.hl_rules.proofs.ItemForms.{other-shared}
 use Rattle.hl_rules.proofs.ProgramItems.{AreFrom, AreKeptItems, buffer-kept, constant-item-kept, function-kept, shared-kept, struct-kept}
 use Rattle.hl_rules.proofs.ProgramScopes.{Stands, program_env}

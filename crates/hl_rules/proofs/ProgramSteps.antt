@@ -1,29 +1,24 @@
 -- Behind each item what is known stands in the program.
-use Rattle.std.proofs.Common.{◌≡◌, ◌∙◌, ◌⊎◌, inl, inr, refl, sym, ap, subst, arith, ℕ, suc, ◌<◌, ◌≤◌, Bool, true, false, if◌then◌else◌, List, [], ◌∷◌, ◌++◌, length, Option, None, Some, length-append}
-use Rattle.std.specs.Prelude.{option_map, slice_get, unwrap_or}
+use Rattle.std.proofs.Common.{◌≡◌, ◌∙◌, ◌⊎◌, inl, inr, refl, sym, ap, subst, arith, ℕ, suc, ◌<◌, List, [], ◌∷◌, ◌++◌, length, Option, Some, length-append}
+use Rattle.std.specs.Prelude.{slice_get}
 use Rattle.std.proofs.lemmas.Option.{slice_get_within}
-use Rattle.hl_lexer.specs.Numbers.{greatest_number}
-use Rattle.hl_parser.specs.Trees.{Tree, Trees, absent, an_init, at_of, present}
+use Rattle.hl_parser.specs.Trees.{Tree, Trees}
 use Rattle.hl_meaning.specs.Programs.{Constant, FunctionDef, Resource, StructDef, Variable}
-use Rattle.hl_meaning.specs.Trees.{constant_root, shared_root}
-use Rattle.hl_meaning.specs.Types.{Ty, void_type}
+use Rattle.hl_meaning.specs.Types.{Ty}
 use Rattle.hl_meaning.specs.WellFormed.{IsDeclared}
-use Rattle.hl_rules.specs.Constants.{constant_number, declarator_type, named_type, result_type}
-use Rattle.hl_rules.specs.Declarations.{buffer_info, constant_value, function_info, init_number, is_number_type, struct_info, variable, with_constant, with_function, with_shared}
-use Rattle.hl_rules.specs.Elaboration.{declared_constant, declared_variable, resource}
-use Rattle.hl_rules.specs.Scopes.{BufferInfo, FunctionInfo, Named, Scope, Sort, StructInfo, VariableInfo, a_buffer_name, a_function_name, a_struct_name, named, spelled, with_global}
+use Rattle.hl_rules.specs.Declarations.{buffer_info, function_info, struct_info, with_function}
+use Rattle.hl_rules.specs.Elaboration.{resource}
+use Rattle.hl_rules.specs.Scopes.{BufferInfo, FunctionInfo, Scope, a_buffer_name, a_function_name, a_struct_name, named, spelled, with_global}
 use Rattle.hl_rules.specs.Statements.{struct_defs}
 use Rattle.hl_rules.proofs.CalleeForms.{function-fits, function-known}
-use Rattle.hl_rules.proofs.ConstantNumbers.{constant-small}
-use Rattle.hl_rules.proofs.DeclaratorForms.{IsKnownAs}
-use Rattle.hl_rules.proofs.Fitting.{FitsBuffer, FitsFunction, FitsVariable, IsKnown}
+use Rattle.hl_rules.proofs.Fitting.{FitsBuffer, FitsFunction}
 use Rattle.hl_rules.proofs.FunctionEntry.{made_function}
 use Rattle.hl_rules.proofs.FunctionItems.{IsFunctionThere}
-use Rattle.hl_rules.proofs.GlobalForms.{get-push, sound-buffer_name, sound-counts, sound-function_name, sound-struct_name}
+use Rattle.hl_rules.proofs.GlobalForms.{get-push, sound-buffer_name, sound-function_name, sound-struct_name}
 use Rattle.hl_rules.proofs.LayoutForms.{get-front, get-next}
 use Rattle.hl_rules.proofs.ProgramScopes.{Stands, program_env}
 use Rattle.hl_rules.proofs.ResourceForms.{IsKnownBuffer, buffer-fits}
-use Rattle.hl_rules.proofs.ScopeForms.{FitSort, FitsNames, declared-there, sorts-global, sound-global}
+use Rattle.hl_rules.proofs.ScopeForms.{FitSort, FitsNames, declared-there, sorts-global}
 use Rattle.hl_rules.proofs.StructForms.{IsKnownStruct, IsKnownType, known_words}
 use Rattle.hl_rules.proofs.TreeShapes.{AllTrees, IsParam}
 

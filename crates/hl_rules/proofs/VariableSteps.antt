@@ -1,15 +1,15 @@
 -- Behind groupshared variables and constants what is known stands in the program.
-use Rattle.std.proofs.Common.{◌≡◌, ◌∙◌, refl, sym, ap, subst, arith, ℕ, suc, ◌≤◌, Bool, true, false, if◌then◌else◌, List, [], ◌∷◌, ◌++◌, length, Option, None, Some}
-use Rattle.std.specs.Prelude.{option_map, slice_get, unwrap_or}
+use Rattle.std.proofs.Common.{◌≡◌, ◌∙◌, refl, sym, ap, subst, ℕ, suc, ◌≤◌, Bool, true, false, if◌then◌else◌, List, [], ◌∷◌, ◌++◌, Option, None, Some}
+use Rattle.std.specs.Prelude.{option_map, unwrap_or}
 use Rattle.hl_lexer.specs.Numbers.{greatest_number}
-use Rattle.hl_parser.specs.Trees.{Tree, Trees, absent, an_init, at_of, present}
+use Rattle.hl_parser.specs.Trees.{Tree, an_init, at_of, present}
 use Rattle.hl_meaning.specs.Programs.{Constant, FunctionDef, Resource, StructDef, Variable}
 use Rattle.hl_meaning.specs.Trees.{constant_root, shared_root}
 use Rattle.hl_meaning.specs.Types.{Ty, void_type}
-use Rattle.hl_rules.specs.Constants.{constant_number, declarator_type}
+use Rattle.hl_rules.specs.Constants.{declarator_type}
 use Rattle.hl_rules.specs.Declarations.{constant_value, init_number, is_number_type, variable, with_constant, with_shared}
 use Rattle.hl_rules.specs.Elaboration.{declared_constant, declared_variable}
-use Rattle.hl_rules.specs.Scopes.{Named, Scope, Sort, VariableInfo, named, spelled, with_global}
+use Rattle.hl_rules.specs.Scopes.{Scope, named, spelled, with_global}
 use Rattle.hl_rules.specs.Statements.{struct_defs}
 use Rattle.hl_rules.proofs.ConstantNumbers.{constant-small}
 use Rattle.hl_rules.proofs.DeclaratorForms.{IsKnownAs}

@@ -1,6 +1,6 @@
 -- Steps of the grammar over the tokens of a source: what each says of the tokens that it passes.
 use Rattle.std.proofs.Common.{◌≡◌, ◌∙◌, refl, sym, ap, subst, ℕ, suc, inl, inr, Bool, List, [], ◌∷◌, ◌++◌, length, append_assoc}
-use Rattle.std.specs.Prelude.{IsTrue, map}
+use Rattle.std.specs.Prelude.{IsTrue}
 use Rattle.hl_lexer.specs.declared.terminal.Terminal.{Terminal}
 use Rattle.hl_lexer.specs.Terminals.{terminal_of}
 use Rattle.hl_lexer.specs.Tokens.{Lexeme}

@@ -10,7 +10,7 @@ use Rattle.hl_rules.specs.declared.found.Broken.{Broken}
 use Rattle.hl_rules.specs.Elaboration.{program_of}
 use Rattle.hl_rules.specs.Found.{Among}
 use Rattle.hl_rules.specs.Parts.{Site}
-use Rattle.hl_rules.specs.Rules.{Breaks, BreaksNothing, broken_by, broken_in}
+use Rattle.hl_rules.specs.Rules.{BreaksNothing, broken_by, broken_in}
 use Rattle.hl_rules.specs.Sites.{program_sites}
 use Rattle.hl_rules.specs.Source.{terminals_of}
 use Rattle.hl_rules.proofs.Free.{IsFree}

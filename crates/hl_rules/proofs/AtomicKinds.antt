@@ -1,14 +1,13 @@
 -- Interlocked operations have kinds that fit their operands.
-use Rattle.std.proofs.Common.{◌≡◌, ◌∙◌, refl, sym, ap, subst, arith, ℕ, zero, suc, ◌-◌, Bool, true, false, ◌&&◌, ◌||◌, not, if◌then◌else◌, nat_le, List, [], ◌∷◌, Option, None, Some}
-use Rattle.std.specs.Prelude.{is_none, is_some, slice_get}
+use Rattle.std.proofs.Common.{◌≡◌, refl, sym, subst, ℕ, zero, suc, ◌-◌, Bool, true, false, ◌&&◌, ◌||◌, not, if◌then◌else◌, nat_le, List, [], ◌∷◌, Option, None, Some}
+use Rattle.std.specs.Prelude.{is_none, slice_get}
 use Rattle.std.specs.List.{list_all}
 use Rattle.std.proofs.lemmas.Bool.{and_parts}
 use Rattle.std.proofs.lemmas.Option.{none-some, same_Some}
 use Rattle.lane_core.specs.declared.event.AtomicKind.{AtomicKind}
-use Rattle.lane_core.specs.declared.event.AtomicKind.TheVariants.{Add, And, Exchange, IMax, IMin, Or, UMax, UMin, Xor}
-use Rattle.hl_meaning.specs.declared.ty.Kind.{Kind}
+use Rattle.lane_core.specs.declared.event.AtomicKind.TheVariants.{Exchange}
 use Rattle.hl_meaning.specs.declared.ty.Kind.TheVariants.{Bool as BoolKind, Int as IntKind, Uint as UintKind}
-use Rattle.hl_meaning.specs.Types.{Ty, array_type, is_of, scalar_type, struct_type, vector_type, void_type}
+use Rattle.hl_meaning.specs.Types.{Ty, array_type, scalar_type, struct_type, vector_type, void_type}
 use Rattle.hl_meaning.specs.WellFormed.{is_kind_for}
 use Rattle.hl_rules.specs.declared.interlocked.Interlocked.{Interlocked}
 use Rattle.hl_rules.specs.declared.interlocked.Presence.{Presence}

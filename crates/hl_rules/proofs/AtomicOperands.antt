@@ -1,5 +1,5 @@
 -- The operands of interlocked operations become what is known of them.
-use Rattle.std.proofs.Common.{◌≡◌, ◌∙◌, refl, sym, ap, subst, ℕ, Bool, true, false, ◌&&◌, not, if◌then◌else◌, List, [], ◌∷◌, Option, None, Some}
+use Rattle.std.proofs.Common.{◌≡◌, ◌∙◌, refl, sym, ap, subst, Bool, true, false, not, if◌then◌else◌, List, [], ◌∷◌, Option, None, Some}
 use Rattle.std.specs.Prelude.{IsTrue, is_none, is_some, option_map}
 use Rattle.std.proofs.lemmas.Bool.{and_parts}
 use Rattle.std.proofs.lemmas.Option.{same_Some}
@@ -9,7 +9,7 @@ use Rattle.hl_meaning.specs.Types.{Ty, array_type, is_basic, scalar_type, struct
 use Rattle.hl_meaning.specs.Conversions.{converts}
 use Rattle.hl_meaning.specs.Places as places
 use Rattle.hl_meaning.specs.Places.{is_writable_place}
-use Rattle.hl_meaning.specs.Trees.{Expr, Location, a_location, place_type, type_of}
+use Rattle.hl_meaning.specs.Trees.{Expr, Location, place_type, type_of}
 use Rattle.hl_meaning.specs.WellFormed.{IsExpr, IsPlace, IsResult}
 use Rattle.hl_rules.specs.declared.interlocked.Interlocked.{Interlocked}
 use Rattle.hl_rules.specs.declared.interlocked.Presence.{Presence}

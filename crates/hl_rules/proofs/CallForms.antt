@@ -1,16 +1,15 @@
 -- Calls of functions become what is known of them.
-use Rattle.std.proofs.Common.{◌≡◌, ◌∙◌, refl, sym, ap, subst, arith, ℕ, suc, ◌+◌, Bool, true, false, ◌&&◌, not, if◌then◌else◌, List, [], ◌∷◌, ◌++◌, map, length, All, Option, None, Some, Result, Ok, Err}
-use Rattle.std.specs.Prelude.{◌==◌, bytes_eq, is_some, option_and_then, option_map, slice_get, IsTrue}
-use Rattle.std.proofs.lemmas.Option.{option_and_then_some, same_Some}
+use Rattle.std.proofs.Common.{◌≡◌, ◌∙◌, refl, sym, ap, subst, arith, ℕ, suc, Bool, true, false, if◌then◌else◌, List, [], ◌∷◌, map, All, Option, None, Some}
+use Rattle.std.specs.Prelude.{is_some, option_and_then, option_map, slice_get, IsTrue}
 use Rattle.hl_parser.specs.Trees.{Tree, Trees, at_of, more_trees, no_trees}
 use Rattle.hl_meaning.specs.declared.program.Copying.{Copying}
 use Rattle.hl_meaning.specs.declared.program.Copying.TheVariants.{CopyBoth, CopyIn, CopyOut}
 use Rattle.hl_meaning.specs.Types.{Ty, ty_eq}
 use Rattle.hl_meaning.specs.Conversions.{conversion_cost, converts}
-use Rattle.hl_meaning.specs.Trees.{Arg, Args, Expr, Location, a_location, an_expr, call_form, more_args, no_args, place_arg, place_type, type_of, value_arg}
+use Rattle.hl_meaning.specs.Trees.{Arg, Args, Location, a_location, an_expr, call_form, more_args, no_args, place_arg, place_type, value_arg}
 use Rattle.hl_meaning.specs.Places as places
 use Rattle.hl_meaning.specs.Places.{is_writable_place}
-use Rattle.hl_meaning.specs.WellFormed.{ArePassed, IsDeclared, IsPassed, IsPlace, IsResult, callee_params, callee_result}
+use Rattle.hl_meaning.specs.WellFormed.{ArePassed, IsDeclared, IsPassed, IsPlace, IsResult, callee_params}
 use Rattle.hl_overload.specs.Choice.{Param, add_costs, passing_cost, sum_of_costs}
 use Rattle.hl_rules.specs.ExpressionRules.{is_unwritable, unwritable_arguments}
 use Rattle.hl_rules.specs.Expressions.{function_code, passed_arg, passed_args}
@@ -143,9 +142,10 @@ all-passed s (p ∷ params) (more_trees first rest) (code ∷ codes) sum h e k =
     given a b = record {
       to = more_args a.to b.to;
       is = passed-more p params code codes a.to b.to a.is b.is;
-      stands = λ env f d.
-          (a.stands env f (declared-result env.structs p.ty (d 0 p (omega arith))),
-          b.stands env f (λ i q l. d (suc i) q (omega arith)));
+      stands = λ env f d. (
+        a.stands env f (declared-result env.structs p.ty (d 0 p (omega arith))),
+        b.stands env f (λ i q l. d (suc i) q (omega arith)),
+      );
     }
 
 -- ---- calls
@@ -175,7 +175,8 @@ function-becomes s at candidate result trees codes sum c r h e k = given (all-pa
       agrees = tt;
       fits = λ env f.
           let own : FitsFunction env c.f (slice_get env.functions candidate.number) = f.functions candidate.number c.f c.there c.other in
-          let params : (callee_params (slice_get env.functions candidate.number) ≡ map param_for candidate.params) × All (λ p. IsDeclared env.structs p.ty) candidate.params = own.params candidate.params c.params in
-          ((own.result result r).1,
-          ((own.result result r).0, subst (λ ps. ArePassed env ps a.to) (sym params.0) (a.stands env f params.1)));
+          let params : (callee_params (slice_get env.functions candidate.number) ≡ map param_for candidate.params) × All (λ p. IsDeclared env.structs p.ty) candidate.params = own.params candidate.params c.params in (
+            (own.result result r).1,
+            ((own.result result r).0, subst (λ ps. ArePassed env ps a.to) (sym params.0) (a.stands env f params.1)),
+          );
     }

@@ -1,6 +1,6 @@
 -- The candidate that a call chooses.
 use Rattle.std.proofs.Common.{◌≡◌, ◌∙◌, refl, sym, ap, subst, arith, ℕ, zero, suc, ◌+◌, Bool, true, false, if◌then◌else◌, List, [], ◌∷◌, map, Option, None, Some, Result, Ok, Err, add-zero}
-use Rattle.std.specs.Prelude.{◌==◌, bytes_eq, option_and_then, option_map, slice_get}
+use Rattle.std.specs.Prelude.{bytes_eq, option_and_then, option_map, slice_get}
 use Rattle.std.proofs.lemmas.Option.{none-some, option_and_then_some, same_Some}
 use Rattle.hl_meaning.specs.Types.{Ty}
 use Rattle.hl_overload.specs.declared.choice.ChoiceFault.{ChoiceFault}

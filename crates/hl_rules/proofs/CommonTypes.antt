@@ -1,22 +1,16 @@
 -- The common type of several operands: each converts to it.
-use Rattle.std.proofs.Common.{◌≡◌, ◌∙◌, refl, sym, ap, subst, arith, ℕ, suc, ◌≤◌, Bool, true, false, ◌&&◌, ◌||◌, not, if◌then◌else◌, List, [], ◌∷◌, map, length, replicate, Option, None, Some, le_trans}
-use Rattle.std.specs.Prelude.{◌==◌, min, IsTrue, option_and_then, option_map}
-use Rattle.std.proofs.lemmas.Option.{cond_some, option_and_then_some, same_Some}
-use Rattle.hl_meaning.specs.declared.intrinsic.Signature.{Signature}
-use Rattle.hl_meaning.specs.declared.intrinsic.Signature.TheVariants.{AllEqual, Atomic, Ballot, Barrier, Bits, CountTruths, LaneNumber, LaneTruth, Numbers, ReadLaneAt, ReadLaneFirst, Truths, Uints, Vote}
+use Rattle.std.proofs.Common.{◌≡◌, refl, subst, arith, ◌≤◌, Bool, true, false, if◌then◌else◌, List, [], ◌∷◌, Option, None, Some, le_trans}
+use Rattle.std.specs.Prelude.{min}
+use Rattle.std.proofs.lemmas.Option.{same_Some}
 use Rattle.hl_meaning.specs.declared.ty.Kind.{Kind}
-use Rattle.hl_meaning.specs.declared.ty.Kind.TheVariants.{Bool as BoolKind, Int as IntKind, Uint as UintKind}
-use Rattle.hl_meaning.specs.Types.{Ty, array_type, bool_type, is_basic, is_numeric, is_of, is_scalar, scalar_type, struct_type, uint_type, vector_type, void_type, with_kind}
+use Rattle.hl_meaning.specs.Types.{Ty, array_type, is_basic, is_numeric, scalar_type, struct_type, vector_type, void_type, with_kind}
 use Rattle.hl_meaning.specs.Conversions.{converts}
-use Rattle.hl_meaning.specs.Intrinsics.{HasSignature, signature_of}
 use Rattle.hl_meaning.specs.Places as places
-use Rattle.hl_meaning.specs.WellFormed.{IsResult}
-use Rattle.hl_rules.specs.Intrinsics.{Passing, passed, passing_if}
-use Rattle.hl_rules.specs.Operands.{common_behind, common_kind, common_of, common_type, computing_kind, kind_of, signed_type, sized}
-use Rattle.hl_rules.proofs.Arguments.{AllConvert, AllResults}
+use Rattle.hl_rules.specs.Operands.{common_behind, common_kind, common_of, common_type, computing_kind, kind_of, sized}
+use Rattle.hl_rules.proofs.Arguments.{AllResults}
 use Rattle.hl_rules.proofs.BinaryForms.{common-number, computing-number}
-use Rattle.hl_rules.proofs.ShortTypes.{IsShort, result-short, short-kind, short-result}
-use Rattle.hl_rules.proofs.SignForms.{kind-converts, numeric-kind}
+use Rattle.hl_rules.proofs.ShortTypes.{IsShort, result-short, short-kind}
+use Rattle.hl_rules.proofs.SignForms.{numeric-kind}
 use Rattle.hl_rules.proofs.TypeLemmas.{cut-converts, is_number_kind, min-left, min-low, min-right, number-numeric}
 
 -- ---- sizes
@@ -208,4 +202,3 @@ one-common (x ∷ types) ty e = on (is_basic x) refl e
     on : (basic : Bool) → is_basic x ≡ basic → common_behind (if basic then Some (with_kind kind x) else None) types ≡ Some ty → AreOne (x ∷ types) ty
     on true h k = given h (behind-common (with_kind kind x) types ty (basic-kind kind x h) k)
     on false h k = absurd (none-behind types ty k)
-

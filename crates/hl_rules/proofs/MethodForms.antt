@@ -1,6 +1,6 @@
 -- Calls of methods become what is known of them.
-use Rattle.std.proofs.Common.{◌≡◌, ◌∙◌, refl, sym, ap, subst, arith, ℕ, ◌≤◌, Bool, true, false, ◌&&◌, if◌then◌else◌, List, [], ◌∷◌, Option, None, Some}
-use Rattle.std.specs.Prelude.{IsTrue, option_and_then, option_map, slice_get}
+use Rattle.std.proofs.Common.{◌≡◌, ◌∙◌, refl, sym, ap, subst, ℕ, ◌≤◌, Bool, true, false, if◌then◌else◌, List, [], ◌∷◌, Option, None, Some}
+use Rattle.std.specs.Prelude.{slice_get}
 use Rattle.std.proofs.lemmas.Bool.{and_from, and_parts}
 use Rattle.hl_lexer.specs.Numbers.{greatest_number}
 use Rattle.hl_parser.specs.Trees.{Trees}
@@ -10,8 +10,8 @@ use Rattle.hl_meaning.specs.Types.{Ty, components_type, is_of, scalar_type, uint
 use Rattle.hl_meaning.specs.Conversions.{converts}
 use Rattle.hl_meaning.specs.Places as places
 use Rattle.hl_meaning.specs.Places.{is_raw, is_writable, is_writable_place}
-use Rattle.hl_meaning.specs.Trees.{Expr, Location, a_location, an_expr, bytes_target, element_root, method_form, no_expr, no_parts, place_type, read_form, some_expr, type_of}
-use Rattle.hl_meaning.specs.WellFormed.{IsDeclared, IsExpr, IsResult, IsWord}
+use Rattle.hl_meaning.specs.Trees.{Expr, a_location, an_expr, bytes_target, element_root, method_form, no_expr, no_parts, read_form, some_expr, type_of}
+use Rattle.hl_meaning.specs.WellFormed.{IsExpr, IsResult}
 use Rattle.hl_rules.specs.declared.interlocked.Interlocked.{Interlocked}
 use Rattle.hl_rules.specs.declared.interlocked.Method.{Method}
 use Rattle.hl_rules.specs.declared.interlocked.Method.TheVariants.{DoesAtomic, LoadsElement, LoadsWords, StoresWords}
@@ -26,7 +26,7 @@ use Rattle.hl_rules.proofs.AtomicOperands.{AreOperands, operands-there}
 use Rattle.hl_rules.proofs.Becoming.{Becomes, IsConverted, converted-there}
 use Rattle.hl_rules.proofs.Fitting.{Fits, FitsBuffer, IsKnown, IsStanding}
 use Rattle.hl_rules.proofs.IndexForms.{IsIndex, index-there}
-use Rattle.hl_rules.proofs.Methods.{IsMethodOf, a_load, a_store, an_atomic, an_element_load, method-is}
+use Rattle.hl_rules.proofs.Methods.{IsMethodOf, a_load, a_store, an_atomic, an_element_load}
 use Rattle.hl_rules.proofs.PlaceForms.{buffer-writes, element-stands, element-there}
 use Rattle.hl_rules.proofs.ShortTypes.{components-short, declared-result, short-result}
 
@@ -60,14 +60,17 @@ load-becomes s at number count buffer trees (v ∷ []) (code ∷ []) there raw l
       is = load-made s at number count trees code c.to c.is;
       type = refl;
       agrees = tt;
-      fits = λ env f.
-          (short-result env.structs (components_type UintKind count) (components-short UintKind count low high),
-          (raw-buffer env number buffer (f.buffers number buffer there) raw,
+      fits = λ env f. (
+        short-result env.structs (components_type UintKind count) (components-short UintKind count low high),
+        (
+          raw-buffer env number buffer (f.buffers number buffer there) raw,
           low,
           high,
           c.stands env (argument-stands s v code h.0 env f) (uint-result env),
           c.type,
-          refl));
+          refl,
+        ),
+      );
     }
 load-becomes s at number count buffer trees [] codes there raw low high h e = absurd (cc e)
 load-becomes s at number count buffer trees (v ∷ w ∷ values) codes there raw low high h e = absurd (cc e)
@@ -88,17 +91,22 @@ store-becomes s at number count buffer trees (v ∷ w ∷ []) (code ∷ other �
       is = store-made s at number count trees code other c.to d.to c.is d.is;
       type = refl;
       agrees = tt;
-      fits = λ env f.
-          (tt,
-          (raw-buffer env number buffer (f.buffers number buffer there) raw,
+      fits = λ env f. (
+        tt,
+        (
+          raw-buffer env number buffer (f.buffers number buffer there) raw,
           low,
           high,
           c.stands env (argument-stands s v code h.0 env f) (uint-result env),
           c.type,
-          (refl,
-          buffer-writes env number buffer (f.buffers number buffer there) writable,
-          d.stands env (argument-stands s w other h.1.0 env f) (short-result env.structs (components_type UintKind count) (components-short UintKind count low high)),
-          d.type)));
+          (
+            refl,
+            buffer-writes env number buffer (f.buffers number buffer there) writable,
+            d.stands env (argument-stands s w other h.1.0 env f) (short-result env.structs (components_type UintKind count) (components-short UintKind count low high)),
+            d.type,
+          ),
+        ),
+      );
     }
 store-becomes s at number count buffer trees [] codes there raw writable low high h e = absurd (cc e)
 store-becomes s at number count buffer trees (v ∷ []) codes there raw writable low high h e = absurd (cc e)

@@ -1,14 +1,13 @@
 -- The methods that buffers have.
-use Rattle.std.proofs.Common.{◌≡◌, ◌∙◌, refl, sym, ap, subst, ℕ, ◌≤◌, Bool, true, false, ◌&&◌, not, if◌then◌else◌, nat_le, List, [], ◌∷◌, find, Option, None, Some}
-use Rattle.std.specs.Prelude.{bytes_eq, option_and_then, option_map}
+use Rattle.std.proofs.Common.{◌≡◌, refl, sym, subst, ℕ, ◌≤◌, Bool, true, false, ◌&&◌, not, if◌then◌else◌, nat_le, List, find, Option, None, Some}
+use Rattle.std.specs.Prelude.{bytes_eq, option_map}
 use Rattle.std.specs.List.{list_all}
 use Rattle.std.proofs.lemmas.Bool.{and_parts, leb-true}
 use Rattle.std.proofs.lemmas.Option.{option_and_then_some, same_Some}
 use Rattle.hl_rules.specs.declared.interlocked.Interlocked.{Interlocked}
 use Rattle.hl_rules.specs.declared.interlocked.Method.{Method}
 use Rattle.hl_rules.specs.declared.interlocked.Method.TheVariants.{DoesAtomic, LoadsElement, LoadsWords, StoresWords}
-use Rattle.hl_rules.specs.Intrinsics.{MethodRow, atomic_named, element_methods, interlocked_form, intrinsic_named, method_among, method_of, or_else, reading_methods, storing_methods}
-use Rattle.hl_rules.specs.Scopes.{BufferInfo}
+use Rattle.hl_rules.specs.Intrinsics.{MethodRow, atomic_named, element_methods, interlocked_form, intrinsic_named, method_among, or_else, reading_methods, storing_methods}
 use Rattle.hl_rules.proofs.Searching.{find-tested}
 
 -- what a buffer's method is

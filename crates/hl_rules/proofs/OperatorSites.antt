@@ -1,35 +1,27 @@
 -- Operators and casts among free sites.
-use Rattle.std.proofs.Common.{◌≡◌, ◌∙◌, refl, sym, ap, subst, ℕ, ◌≤◌, Bool, true, false, not, List, [], ◌∷◌, ◌++◌, Option, None, Some}
-use Rattle.std.specs.Prelude.{IsTrue, option_and_then, option_map}
-use Rattle.hl_lexer.specs.declared.terminal.Terminal.{Terminal}
-use Rattle.hl_lexer.specs.declared.terminal.Terminal.TheVariants as terminals
+use Rattle.std.proofs.Common.{◌≡◌, ◌∙◌, refl, sym, ap, subst, ℕ, ◌≤◌, true, false, not, List, [], ◌∷◌, ◌++◌, Option, Some}
+use Rattle.std.specs.Prelude.{option_and_then, option_map}
 use Rattle.hl_parser.specs.Grammar as grammar
-use Rattle.hl_parser.specs.Trees.{Tree, a_binary, a_choice, a_postfix, a_unary, absent, at_of, present}
-use Rattle.hl_meaning.specs.Types.{Ty, is_basic, is_void}
+use Rattle.hl_parser.specs.Trees.{Tree, a_binary, a_choice, a_unary, at_of, present}
+use Rattle.hl_meaning.specs.Types.{Ty, is_void}
 use Rattle.hl_meaning.specs.Conversions.{converts}
-use Rattle.hl_meaning.specs.Operators.{is_among, negating, signing}
-use Rattle.hl_meaning.specs.Trees.{Location, a_location, place_type}
-use Rattle.hl_meaning.specs.Places as places
 use Rattle.hl_rules.specs.Constants.{basic_type}
 use Rattle.hl_rules.specs.DeclarationRules.{is_known}
-use Rattle.hl_rules.specs.ExpressionRules.{is_unwritable}
-use Rattle.hl_rules.specs.Expressions.{binary_code, choice_code, code_of, prefix_code, signed_code, step_code, with_two}
-use Rattle.hl_rules.specs.Nodes.{Code, a_place_code, a_value_code, converted_code, type_of_code, value_of_code}
-use Rattle.hl_rules.specs.Operands.{choice_type, negated_type, of_three, of_two, operator_type, signed_type}
-use Rattle.hl_rules.specs.Parts.{Part, Site, a_cast, a_written_side, site}
+use Rattle.hl_rules.specs.Expressions.{binary_code, choice_code, code_of}
+use Rattle.hl_rules.specs.Nodes.{Code, a_value_code, converted_code, type_of_code, value_of_code}
+use Rattle.hl_rules.specs.Operands.{choice_type, of_three, operator_type}
+use Rattle.hl_rules.specs.Parts.{Site, a_cast, site}
 use Rattle.hl_rules.specs.Scopes.{Scope}
-use Rattle.hl_rules.specs.Sites.{expression_sites, operated, prefix_sites, used}
+use Rattle.hl_rules.specs.Sites.{expression_sites, operated, used}
 use Rattle.hl_rules.specs.Source.{mark_at, terminal_at}
-use Rattle.hl_rules.specs.Values.{Standing, Value, a_place, may_be_written, no_place, operand_of, plain_value, prefix_type, standing_in, type_in, unclear, value_of, valued}
-use Rattle.hl_rules.proofs.Becoming.{Agrees, Becomes, IsOperand, IsValueIn, becomes-stands, not-true, of_two-there, operated-known, used-known, valued-there, with_two-there}
+use Rattle.hl_rules.specs.Values.{Value, plain_value, type_in, value_of, valued}
+use Rattle.hl_rules.proofs.Becoming.{Becomes, IsOperand, IsValueIn, becomes-stands, not-true, of_two-there, operated-known, used-known, valued-there, with_two-there}
 use Rattle.hl_rules.proofs.BinaryForms.{binary-becomes}
 use Rattle.hl_rules.proofs.ChoiceForms.{choice-becomes}
-use Rattle.hl_rules.proofs.Fitting.{Fits, IsCode, IsStanding}
 use Rattle.hl_rules.proofs.Free.{IsFree, Obeys, free-first, free-left, free-right, not_broken}
-use Rattle.hl_rules.proofs.Marks.{is_sign, operator-marked, sign-marked}
+use Rattle.hl_rules.proofs.Marks.{operator-marked}
 use Rattle.hl_rules.proofs.ShortTypes.{short-result}
-use Rattle.hl_rules.proofs.SignForms.{cast-becomes, negates-becomes, signs-becomes, word-short}
-use Rattle.hl_rules.proofs.WriteForms.{IsTargetIn, standing-written, step-becomes}
+use Rattle.hl_rules.proofs.SignForms.{cast-becomes, word-short}
 
 -- ---- operands
 

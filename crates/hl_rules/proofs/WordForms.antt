@@ -1,11 +1,10 @@
 -- Numbers, truth values and names become what is known of them.
-use Rattle.std.proofs.Common.{◌≡◌, ◌∙◌, refl, sym, ap, subst, arith, ℕ, ◌<◌, ◌≤◌, ◌^◌, Bool, true, false, ◌||◌, if◌then◌else◌, nat_lt, List, [], ◌∷◌, Option, None, Some}
+use Rattle.std.proofs.Common.{◌≡◌, arith, ℕ, ◌≤◌, Bool, true, false, ◌||◌, if◌then◌else◌, nat_lt, []}
 use Rattle.std.specs.Prelude.{is_none}
 use Rattle.hl_lexer.specs.declared.terminal.Terminal.{Terminal}
 use Rattle.hl_lexer.specs.declared.terminal.Terminal.TheVariants as terminals
 use Rattle.hl_lexer.specs.Numbers.{greatest_number}
 use Rattle.hl_parser.specs.Grammar.{is_word}
-use Rattle.hl_meaning.specs.declared.ty.Kind.{Kind}
 use Rattle.hl_meaning.specs.declared.ty.Kind.TheVariants.{Int as IntKind, Uint as UintKind}
 use Rattle.hl_meaning.specs.Types.{bool_type, scalar_type}
 use Rattle.hl_meaning.specs.Places as places
@@ -19,7 +18,7 @@ use Rattle.hl_rules.specs.Sites.{word_sites}
 use Rattle.hl_rules.specs.Source.{is_unsigned_at, number_at}
 use Rattle.hl_rules.specs.Values.{number_type, word_value}
 use Rattle.hl_rules.proofs.Becoming.{Becomes, value-becomes}
-use Rattle.hl_rules.proofs.Fitting.{Fits, IsKnown}
+use Rattle.hl_rules.proofs.Fitting.{IsKnown}
 use Rattle.hl_rules.proofs.Free.{IsFree, Obeys, free-first, not_broken}
 use Rattle.hl_rules.proofs.PlaceForms.{name-becomes}
 use Rattle.hl_rules.proofs.ShortTypes.{short-result}

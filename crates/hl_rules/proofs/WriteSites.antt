@@ -1,6 +1,6 @@
 -- Assignments and the operators `++` and `--` among free sites.
 use Rattle.std.proofs.Common.{◌≡◌, ◌∙◌, refl, sym, ap, subst, ℕ, Bool, true, false, ◌||◌, not, if◌then◌else◌, nat_le, List, [], ◌∷◌, ◌++◌, Option, None, Some}
-use Rattle.std.specs.Prelude.{IsTrue, option_and_then}
+use Rattle.std.specs.Prelude.{option_and_then}
 use Rattle.std.proofs.lemmas.Option.{same_Some}
 use Rattle.hl_lexer.specs.declared.terminal.Terminal.{Terminal}
 use Rattle.hl_lexer.specs.declared.terminal.Terminal.TheVariants as terminals
@@ -29,7 +29,7 @@ use Rattle.hl_rules.proofs.Free.{IsFree, Obeys, free-first, free-left, free-rest
 use Rattle.hl_rules.proofs.Marks.{is_sign}
 use Rattle.hl_rules.proofs.OperatorSites.{Known, known-stands, of-one, operand-of, type-known, used-of}
 use Rattle.hl_rules.proofs.SignForms.{negates-becomes, signs-becomes}
-use Rattle.hl_rules.proofs.WriteForms.{IsCompound, IsTargetIn, assignment-becomes, compound-becomes, standing-written, step-becomes}
+use Rattle.hl_rules.proofs.WriteForms.{IsTargetIn, assignment-becomes, compound-becomes, standing-written, step-becomes}
 
 -- ---- targets
 

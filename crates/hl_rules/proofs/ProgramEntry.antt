@@ -17,9 +17,9 @@ use Rattle.hl_rules.proofs.EntryForms.{IsMadeFunction, free-item, free-items, fu
 use Rattle.hl_rules.proofs.Free.{IsFree, free-first, not_broken}
 use Rattle.hl_rules.proofs.FunctionEntry.{IsFreeFunction, entry-kept, entry-threads, free-function}
 use Rattle.hl_rules.proofs.ItemForms.{AreKnownItems, IsOther, is_function-any, is_named, other-buffer, other-constant, other-shared, other-struct}
-use Rattle.hl_rules.proofs.Options.{not-false}
 use Rattle.hl_rules.proofs.ThreadForms.{HasThreads}
 use Rattle.hl_rules.proofs.TreeShapes.{AllTrees, IsItem}
+use Rattle.hl_rules.proofs.Options.{not-false}
 
 -- One of the functions is the entry, the first one of its name, and there are its threads.
 pub record HasEntry (s : Scope) (items : Trees) (defs : List FunctionDef) : Type 0 where

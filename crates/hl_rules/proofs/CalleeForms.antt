@@ -34,7 +34,7 @@ abbrev pub passed_of : (s : Scope) (params : Trees) → AreTypedParams s params 
 passed_of s no_trees typed = []
 passed_of s (more_trees first rest) typed = record { ty = typed.0.type; copying = param_copying s first } ∷ passed_of (after_param s first) rest typed.1
 
-pub passed-known : (s : Scope) (params : Trees) (typed : AreTypedParams s params) → params_known (params_info s params) ≡ Some (passed_of s params typed)
+passed-known : (s : Scope) (params : Trees) (typed : AreTypedParams s params) → params_known (params_info s params) ≡ Some (passed_of s params typed)
 passed-known s no_trees typed = refl
 passed-known s (more_trees first rest) typed =
     ap (λ o. option_and_then (λ ty. option_map (λ more. record { ty = ty; copying = param_copying s first } ∷ more) (params_known (params_info (after_param s first) rest))) o) typed.0.is
@@ -49,7 +49,7 @@ passed-declared structs s tokens (more_trees (a_param at constant direction type
 passed-declared structs s tokens (more_trees other rest) typed shape declared = absurd shape.0
 
 -- the parameters of the program's function are these
-pub callee-params : (s t : Scope) (tokens : List Lexeme) (pre more : List Variable) (number : ℕ) (params : Trees) (typed : AreTypedParams t params) → number ≡ length pre → t.tokens ≡ s.tokens → AllTrees (IsParam tokens) params → map (param_of (pre ++ (param_variables t params ++ more))) (parameters_from s number params) ≡ map param_for (passed_of t params typed)
+callee-params : (s t : Scope) (tokens : List Lexeme) (pre more : List Variable) (number : ℕ) (params : Trees) (typed : AreTypedParams t params) → number ≡ length pre → t.tokens ≡ s.tokens → AllTrees (IsParam tokens) params → map (param_of (pre ++ (param_variables t params ++ more))) (parameters_from s number params) ≡ map param_for (passed_of t params typed)
 callee-params s t tokens pre more number no_trees typed n e shape = refl
 callee-params s t tokens pre more number (more_trees (a_param at constant direction type declarator semantic) rest) typed n e shape =
     ap (λ o. option_map (λ ty. record { ty = ty; copying = copying_of s direction }) o ∷ map (param_of (pre ++ (first ∷ (param_variables behind rest ++ more)))) (parameters_from s (suc number) rest)) there
@@ -93,9 +93,9 @@ known-result structs s ty known declared = result-kept structs s known.type decl
 pub function-fits : (env : places.Scope) (s : Scope) (tokens : List Lexeme) (result : Tree) (name : ℕ) (params : Trees) (block : Tree) (body : Stmts) (typed : AreTypedParams (at_params s result) params) (known : IsKnownResult s (result_type s result)) → AllTrees (IsParam tokens) params → ((ty : Ty) → IsKnownType (known_words s.structs) ty → IsDeclared env.structs ty) → FitsFunction env (function_info s result name params) (Some (made_function s result name params block known.type body))
 function-fits env s tokens result name params block body typed known shape declared = record {
   params = λ passed e.
-    subst (λ l. (callee_params (Some (made_function s result name params block known.type body)) ≡ map param_for l) × All (λ (p : Param). IsDeclared env.structs p.ty) l)
-    (same_Some (passed_of (at_params s result) params typed) passed (sym (passed-known (at_params s result) params typed) ∙ e))
-    (callee-params s (at_params s result) tokens [] (body_variables (in_body s result name params) block) 0 params typed refl refl shape, passed-declared env.structs (at_params s result) tokens params typed shape declared);
+      subst (λ l. (callee_params (Some (made_function s result name params block known.type body)) ≡ map param_for l) × All (λ (p : Param). IsDeclared env.structs p.ty) l)
+      (same_Some (passed_of (at_params s result) params typed) passed (sym (passed-known (at_params s result) params typed) ∙ e))
+      (callee-params s (at_params s result) tokens [] (body_variables (in_body s result name params) block) 0 params typed refl refl shape, passed-declared env.structs (at_params s result) tokens params typed shape declared);
   result = λ ty e. (
     ap (λ t. Some t) (same_Some known.type ty (sym known.is ∙ e)),
     subst (λ t. IsResult env.structs t) (same_Some known.type ty (sym known.is ∙ e)) (known-result env.structs s (result_type s result) known declared),

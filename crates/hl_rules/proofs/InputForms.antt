@@ -25,7 +25,7 @@ AreKnownParams s (more_trees first rest) = ((ty : Ty) × (param_type s first ≡
 
 -- ---- what depends on the tokens alone
 
-pub semantic-tokens : (s t : Scope) (name : Option ℕ) → s.tokens ≡ t.tokens → semantic_if s name ≡ semantic_if t name
+semantic-tokens : (s t : Scope) (name : Option ℕ) → s.tokens ≡ t.tokens → semantic_if s name ≡ semantic_if t name
 semantic-tokens s t None e = refl
 semantic-tokens s t (Some name) e = ap (λ tokens. semantic_named (text_at tokens name)) e
 
@@ -80,8 +80,8 @@ input-of s before (Some semantic) (Some own) ty e h = record {
   semantic = semantic;
   is = refl;
   fits =
-    subst (λ t. HasSemantic semantic t) (ap (λ o. unwrap_or o own) e)
-    (semantic-fits semantic own (not-false (is_semantic_type semantic own) (not-holds (not (is_semantic_type semantic own)) (and-left (not (not (is_semantic_type semantic own))) (not (is_semantic_among s semantic before)) h))));
+      subst (λ t. HasSemantic semantic t) (ap (λ o. unwrap_or o own) e)
+      (semantic-fits semantic own (not-false (is_semantic_type semantic own) (not-holds (not (is_semantic_type semantic own)) (and-left (not (not (is_semantic_type semantic own))) (not (is_semantic_among s semantic before)) h))));
   fresh = not-holds (is_semantic_among s semantic before) (and-right (not (not (is_semantic_type semantic own))) (not (is_semantic_among s semantic before)) h);
 }
 

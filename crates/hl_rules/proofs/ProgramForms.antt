@@ -95,30 +95,30 @@ module _ (tokens : List Lexeme) (entry : List ℕ) (items : Trees) where
       threads = found.threads;
     };
     is =
-      with_three-there (λ functions number threads. Some (record {
-        structs = struct_defs (after_items (first_scope tokens entry) items).structs;
-        resources = of_items item_resources (first_scope tokens entry) items;
-        shared = of_items item_shared (first_scope tokens entry) items;
-        constants = of_items item_constants (first_scope tokens entry) items;
-        functions = functions;
-        entry = number;
-        threads = threads;
-      }))
-      (all_of_items item_functions (first_scope tokens entry) items)
-      (entry_number (after_items (first_scope tokens entry) items))
-      (option_and_then one_of (all_of_items item_threads (first_scope tokens entry) items))
-      kept.defs (length found.before) found.threads
-      kept.made
-      (entry-number tokens (first_scope tokens entry) items kept.defs shapes refl found)
-      (ap (λ o. option_and_then one_of o) found.is);
+        with_three-there (λ functions number threads. Some (record {
+          structs = struct_defs (after_items (first_scope tokens entry) items).structs;
+          resources = of_items item_resources (first_scope tokens entry) items;
+          shared = of_items item_shared (first_scope tokens entry) items;
+          constants = of_items item_constants (first_scope tokens entry) items;
+          functions = functions;
+          entry = number;
+          threads = threads;
+        }))
+        (all_of_items item_functions (first_scope tokens entry) items)
+        (entry_number (after_items (first_scope tokens entry) items))
+        (option_and_then one_of (all_of_items item_threads (first_scope tokens entry) items))
+        kept.defs (length found.before) found.threads
+        kept.made
+        (entry-number tokens (first_scope tokens entry) items kept.defs shapes refl found)
+        (ap (λ o. option_and_then one_of o) found.is);
     well_formed = record {
       structs = λ number d e. structs-kept (after_items (first_scope tokens entry) items).structs number d kept.sound.structs e;
       resources = kept.resources;
       shared = kept.shared;
       constants = kept.constants;
       functions = λ number f e.
-        function-of _ _ _ _ kept.defs (length found.before) found.threads number f
-        (function-behind (program_env (struct_defs (after_items (first_scope tokens entry) items).structs) (of_items item_resources (first_scope tokens entry) items) (of_items item_shared (first_scope tokens entry) items) (of_items item_constants (first_scope tokens entry) items)) [] kept.defs number f kept.functions e);
+          function-of _ _ _ _ kept.defs (length found.before) found.threads number f
+          (function-behind (program_env (struct_defs (after_items (first_scope tokens entry) items).structs) (of_items item_resources (first_scope tokens entry) items) (of_items item_shared (first_scope tokens entry) items) (of_items item_constants (first_scope tokens entry) items)) [] kept.defs number f kept.functions e);
       entry = subst (λ o. IsEntryIf o) (sym found.at) found.kept;
       threads = found.are;
     };

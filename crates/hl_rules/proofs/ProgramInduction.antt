@@ -46,9 +46,9 @@ module _ (structs : List StructDef) (resources : List Resource) (shared : List V
       record {
         stands = stands-constant structs resources shared constants s rs ss cs fs stands more prefix (named_type s type) declarator init behind own e;
         kept =
-          constant-kept (program_env structs resources shared constants) s stands.sound stands.outside (record { more = more; prefix = prefix; names = stands.names }) (named_type s type) declarator init own
-          (free-rest (site s (a_global_name (at_of declarator))) (constant_sites s (declarator_type s (named_type s type) declarator) declarator init)
-          (free-right (declarator_sites s (named_type s type) declarator) (site s (a_global_name (at_of declarator)) ∷ constant_sites s (declarator_type s (named_type s type) declarator) declarator init) rest));
+            constant-kept (program_env structs resources shared constants) s stands.sound stands.outside (record { more = more; prefix = prefix; names = stands.names }) (named_type s type) declarator init own
+            (free-rest (site s (a_global_name (at_of declarator))) (constant_sites s (declarator_type s (named_type s type) declarator) declarator init)
+            (free-right (declarator_sites s (named_type s type) declarator) (site s (a_global_name (at_of declarator)) ∷ constant_sites s (declarator_type s (named_type s type) declarator) declarator init) rest));
       }
 
   -- groupshared variables
@@ -78,7 +78,7 @@ module _ (structs : List StructDef) (resources : List Resource) (shared : List V
       let item = an_item place (a_function at attributes result name params block) in
       let front = front-there s (more_trees item rest) rs ss cs fs stands from in
       let there = function-there structs resources shared constants s rs ss cs fs stands front.0 front.1 claim attributes result name params block
-          (free-function s at attributes result name params block (free-item s item rest from.free)) from.shapes.0.1 from.shapes.0.2 from.shapes.0.3 in
+      (free-function s at attributes result name params block (free-item s item rest from.free)) from.shapes.0.1 from.shapes.0.2 from.shapes.0.3 in
       function-kept structs resources shared constants s place at attributes result name params block rest fs there
       (items-kept claim (with_function s result name params) rest rs ss cs (fs ++ made_function s result name params block there.known.type there.code ∷ [])
       (stands-function structs resources shared constants s rs ss cs fs stands front.0 front.1 result name params block there from.shapes.0.2)

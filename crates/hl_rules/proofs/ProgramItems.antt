@@ -53,8 +53,8 @@ module _ (structs : List StructDef) (resources : List Resource) (shared : List V
   function-kept s place at attributes result name params block rest fs there kept = record {
     defs = made_function s result name params block there.known.type there.code ∷ kept.defs;
     made =
-      ap (λ o. both_lists (option_map (λ (f : FunctionDef). f ∷ []) o) (all_of_items item_functions (with_function s result name params) rest)) there.is
-      ∙ ap (λ o. both_lists (Some (made_function s result name params block there.known.type there.code ∷ [])) o) kept.made;
+        ap (λ o. both_lists (option_map (λ (f : FunctionDef). f ∷ []) o) (all_of_items item_functions (with_function s result name params) rest)) there.is
+        ∙ ap (λ o. both_lists (Some (made_function s result name params block there.known.type there.code ∷ [])) o) kept.made;
     functions = (there.kept, kept.functions);
     known = (known-params (at_params s result) params there.typed, kept.known);
     resources = kept.resources;

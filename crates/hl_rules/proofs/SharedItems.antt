@@ -35,8 +35,8 @@ module _ (structs : List StructDef) (resources : List Resource) (shared : List V
   one-more : (ty : Option Ty) (s : Scope) (rs : List Resource) (ss : List Variable) (cs : List Constant) (fs : List FunctionDef) (first : Tree) (rest : Trees) → IsDeclared structs (declared_variable s ty first).ty → IsSharedThere ty (with_shared ty s first) rs (ss ++ declared_variable s ty first ∷ []) cs fs rest → IsSharedThere ty s rs ss cs fs (more_trees first rest)
   one-more ty s rs ss cs fs first rest declared there = record {
     stands =
-      subst (λ l. Stands (program_env structs resources shared constants) (after_shared ty (with_shared ty s first) rest) rs l cs fs)
-      (append_assoc ss (declared_variable s ty first ∷ []) (declared_shared ty (with_shared ty s first) rest)) there.stands;
+        subst (λ l. Stands (program_env structs resources shared constants) (after_shared ty (with_shared ty s first) rest) rs l cs fs)
+        (append_assoc ss (declared_variable s ty first ∷ []) (declared_shared ty (with_shared ty s first) rest)) there.stands;
     declared = All-cons (λ (v : Variable). IsDeclared structs v.ty) (declared_variable s ty first) (declared_shared ty (with_shared ty s first) rest) declared there.declared;
   }
 

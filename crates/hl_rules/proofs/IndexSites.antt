@@ -8,7 +8,6 @@ use Rattle.hl_parser.specs.Trees.{Tree, a_postfix, a_primary, absent, at_of, pre
 use Rattle.hl_meaning.specs.Types.{Ty, array_type, is_scalar, is_void, scalar_type, struct_type, uint_type, vector_type, void_type}
 use Rattle.hl_meaning.specs.Trees.{Expr, type_of}
 use Rattle.hl_rules.specs.Constants.{constant_number}
-use Rattle.hl_rules.specs.DeclarationRules.{is_known}
 use Rattle.hl_rules.specs.ExpressionRules.{is_not_indexed, is_past, needs_constant_index}
 use Rattle.hl_rules.specs.Expressions.{bare_at, bracketed_code, code_of, index_expr, indexed_code}
 use Rattle.hl_rules.specs.Nodes.{type_of_code}
@@ -16,7 +15,7 @@ use Rattle.hl_rules.specs.Parts.{Site, an_index, site}
 use Rattle.hl_rules.specs.Scopes.{BufferInfo, Scope, Sort, a_buffer_name, a_function_name, a_struct_name, a_variable_name, sort_at, spelled}
 use Rattle.hl_rules.specs.Sites.{buffer_or_used, expression_sites, used}
 use Rattle.hl_rules.specs.Source.{terminal_at}
-use Rattle.hl_rules.specs.Values.{bracketed_value, buffer_at, buffer_named, buffer_sort, buffer_word, element_value, indexed_value, standing_in, type_in, value_of}
+use Rattle.hl_rules.specs.Values.{is_known, bracketed_value, buffer_at, buffer_named, buffer_sort, buffer_word, element_value, indexed_value, standing_in, type_in, value_of}
 use Rattle.hl_rules.proofs.Becoming.{Becomes, IsValueIn, not-true}
 use Rattle.hl_rules.proofs.ConstantNumbers.{constant-small}
 use Rattle.hl_rules.proofs.Fitting.{IsKnown}

@@ -6,7 +6,6 @@ use Rattle.hl_parser.specs.Trees.{Tree, a_binary, a_choice, a_unary, at_of, pres
 use Rattle.hl_meaning.specs.Types.{Ty, is_void}
 use Rattle.hl_meaning.specs.Conversions.{converts}
 use Rattle.hl_rules.specs.Constants.{basic_type}
-use Rattle.hl_rules.specs.DeclarationRules.{is_known}
 use Rattle.hl_rules.specs.Expressions.{binary_code, choice_code, code_of}
 use Rattle.hl_rules.specs.Nodes.{Code, a_value_code, converted_code, type_of_code, value_of_code}
 use Rattle.hl_rules.specs.Operands.{choice_type, of_three, operator_type}
@@ -14,7 +13,7 @@ use Rattle.hl_rules.specs.Parts.{Site, a_cast, site}
 use Rattle.hl_rules.specs.Scopes.{Scope}
 use Rattle.hl_rules.specs.Sites.{expression_sites, operated, used}
 use Rattle.hl_rules.specs.Source.{mark_at, terminal_at}
-use Rattle.hl_rules.specs.Values.{Value, plain_value, type_in, value_of, valued}
+use Rattle.hl_rules.specs.Values.{Value, plain_value, type_in, value_of, valued, is_known}
 use Rattle.hl_rules.proofs.Becoming.{Becomes, IsOperand, IsValueIn, becomes-stands, not-true, of_two-there, operated-known, used-known, valued-there, with_two-there}
 use Rattle.hl_rules.proofs.BinaryForms.{binary-becomes}
 use Rattle.hl_rules.proofs.ChoiceForms.{choice-becomes}

@@ -7,7 +7,7 @@ use Rattle.hl_parser.specs.Trees.{Tree, Trees, a_postfix, absent, an_args, prese
 use Rattle.hl_meaning.specs.Types.{Ty, is_void}
 use Rattle.hl_rules.specs.declared.interlocked.Method.{Method}
 use Rattle.hl_rules.specs.ExpressionRules.{is_no_member, is_no_method, is_no_swizzle}
-use Rattle.hl_rules.specs.Expressions.{code_of, codes_of, dotted_code, method_call_code, method_code}
+use Rattle.hl_rules.specs.Expressions.{code_of, codes_of, dotted_code, first_at, first_number, method_call_code, method_code}
 use Rattle.hl_rules.specs.Intrinsics.{method_of}
 use Rattle.hl_rules.specs.Nodes.{Code, type_of_code}
 use Rattle.hl_rules.specs.Parts.{Site, a_dot, a_method_call, site}
@@ -92,11 +92,11 @@ method-typed buffer name values types method e h k =
     ∙ (ap (λ o. option_and_then (λ m. if method_fits m values then method_gives buffer m else None) o) h
     ∙ ap (λ b. if b then method_gives buffer method else None) k)
 
-method-coded : (s : Scope) (at number : ℕ) (operand : Tree) (name : List ℕ) (trees : Trees) (codes : List Code) (buffer : BufferInfo) (method : Method) → buffer_named s operand ≡ Some number → slice_get s.buffers number ≡ Some buffer → method_of buffer name ≡ Some method → method_call_code s at (buffer_named s operand) name trees codes ≡ method_code s at number method trees codes
+method-coded : (s : Scope) (at number : ℕ) (operand : Tree) (name : List ℕ) (trees : Trees) (codes : List Code) (buffer : BufferInfo) (method : Method) → buffer_named s operand ≡ Some number → slice_get s.buffers number ≡ Some buffer → method_of buffer name ≡ Some method → method_call_code s at (buffer_named s operand) name trees codes ≡ method_code buffer at number method (first_at trees) (first_number s trees) codes
 method-coded s at number operand name trees codes buffer method e h k =
     ap (λ o. method_call_code s at o name trees codes) e
-    ∙ (ap (λ o. option_and_then (λ info. option_and_then (λ m. method_code s at number m trees codes) (method_of info name)) o) h
-    ∙ ap (λ o. option_and_then (λ m. method_code s at number m trees codes) o) k)
+    ∙ (ap (λ o. option_and_then (λ info. option_and_then (λ m. method_code info at number m (first_at trees) (first_number s trees) codes) (method_of info name)) o) h
+    ∙ ap (λ o. option_and_then (λ m. method_code buffer at number m (first_at trees) (first_number s trees) codes) o) k)
 
 pub method-known : (s : Scope) → IsKnown s → (at mark name first : ℕ) (operand : Tree) (trees : Trees) (codes : List Code) → codes_of s trees ≡ Some codes → ArgumentsBecome s (values_of s trees) codes → IsFree (expression_sites s (a_postfix at operand mark (Some name) (present (an_args first trees)))) → Known s (a_postfix at operand mark (Some name) (present (an_args first trees)))
 method-known s known at mark name first operand trees codes coded h free = on (buffer_at s operand) refl judged

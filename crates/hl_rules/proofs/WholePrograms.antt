@@ -1,8 +1,6 @@
 -- A program that breaks no rule becomes a program, which is well formed.
 use Rattle.std.proofs.Common.{◌≡◌, refl, ℕ, List, [], ◌∷◌, inl, Some}
-use Rattle.base_core.specs.declared.place.Place.{Place}
-use Rattle.hl_lexer.specs.Tokens.{IsTokenList, Lexeme}
-use Rattle.hl_parser.specs.Grammar.{SpellsProgram}
+use Rattle.hl_lexer.specs.Tokens.{Lexeme}
 use Rattle.hl_meaning.specs.Programs.{Program}
 use Rattle.hl_meaning.specs.WellFormed.{IsWellFormed}
 use Rattle.hl_parser.specs.Trees.{Tree}
@@ -13,7 +11,6 @@ use Rattle.hl_rules.specs.Laws.{FreeIsWellFormed}
 use Rattle.hl_rules.specs.Parts.{Site}
 use Rattle.hl_rules.specs.Rules.{BreaksNothing, broken_by, broken_in}
 use Rattle.hl_rules.specs.Sites.{program_sites}
-use Rattle.hl_rules.specs.Source.{terminals_of}
 use Rattle.hl_rules.proofs.ExpressionForms.{expression-becomes}
 use Rattle.hl_rules.proofs.Free.{IsFree}
 use Rattle.hl_rules.proofs.Gathering.{flat-among}

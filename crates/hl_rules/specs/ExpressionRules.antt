@@ -15,14 +15,13 @@ use Rattle.hl_overload.specs.declared.choice.ChoiceFault.TheVariants.{Ambiguous,
 use Rattle.hl_overload.specs.Choice.{Param}
 use Rattle.hl_rules.specs.Constants.{basic_type, constant_number, tree_count}
 use Rattle.hl_rules.specs.Declarations.{is_there}
-use Rattle.hl_rules.specs.DeclarationRules.{is_known}
 use Rattle.hl_rules.specs.Found.{broken_if}
 use Rattle.hl_rules.specs.declared.interlocked.Method.{Method}
 use Rattle.hl_rules.specs.Intrinsics.{interlocked_form, intrinsic_named, method_of}
 use Rattle.hl_rules.specs.Parts.{Part, a_call, a_cast, a_condition, a_constructor, a_conversion, a_dot, a_function_attribute, a_loop_jump, a_method_call, a_return, a_statement_attribute, a_use, a_written_side, an_index, an_operand}
 use Rattle.hl_rules.specs.Scopes.{BufferInfo, Scope, Sort, a_function_name, sort_at, spelled}
 use Rattle.hl_rules.specs.Sites.{is_numthreads}
-use Rattle.hl_rules.specs.Values.{Candidate, Standing, Value, a_place, argument_types, arguments_of, buffer_at, call_choice, called, gives_nothing, intrinsic_type, is_longer, is_no_operand, is_word, letters_within, may_be_written, member_number, members_of, method_fits, no_place, standing_in, type_in, unclear, value_of, valued}
+use Rattle.hl_rules.specs.Values.{Candidate, Standing, Value, a_place, argument_types, arguments_of, buffer_at, call_choice, called, gives_nothing, intrinsic_type, is_known, is_longer, is_no_operand, is_word, letters_within, may_be_written, member_number, members_of, method_fits, no_place, standing_in, type_in, unclear, value_of, valued}
 
 -- ---- statements
 

@@ -86,10 +86,12 @@ indexed_code at index code = indexed_into at index (type_of_code code) code
 abbrev pub element_if : BufferInfo → Option Ty
 element_if buffer = if buffer.raw then None else buffer.element
 
--- an element of a structured buffer, as a place
+-- an element of a structured buffer of a number, as a place
+abbrev pub element_in : BufferInfo → (number : ℕ) → Expr → Option Location
+element_in buffer number index = option_map (λ ty. a_location ty (element_root number index) no_parts) (element_if buffer)
+
 abbrev pub element_place : Scope → (number : ℕ) → Expr → Option Location
-element_place s number index =
-    option_and_then (λ buffer. option_map (λ ty. a_location ty (element_root number index) no_parts) (element_if buffer)) (slice_get s.buffers number)
+element_place s number index = option_and_then (λ buffer. element_in buffer number index) (slice_get s.buffers number)
 
 -- an index behind an expression, which may be the name of a buffer
 abbrev pub bracketed_code : Scope → (at : ℕ) → (buffer : Option ℕ) → Expr → Option Code → Option Code
@@ -230,24 +232,25 @@ trees_of_args (an_args at arguments) = arguments
 trees_of_args _ = no_trees
 
 -- A method of a byte-address buffer takes an address, which is converted to uint. A structured buffer's `Load` reads an
--- element, by an index; what it gives is no place.
-abbrev pub method_code : Scope → (at number : ℕ) → Method → Trees → List Code → Option Code
-method_code s at number (LoadsWords count) trees (address ∷ []) =
+-- element, by an index; what it gives is no place. The first token of the first argument is that of an index, and the
+-- constant number too.
+abbrev pub method_code : BufferInfo → (at number : ℕ) → Method → (first : ℕ) → (constant : Option ℕ) → List Code → Option Code
+method_code buffer at number (LoadsWords count) first constant (address ∷ []) =
     option_and_then (λ a. a_value (components_type UintKind count) at (method_form number count a no_expr)) (converted_code uint_type address)
-method_code s at number (StoresWords count) trees (address ∷ value ∷ []) =
+method_code buffer at number (StoresWords count) first constant (address ∷ value ∷ []) =
     option_and_then (λ a. option_and_then (λ v. a_value void_type at (method_form number count a (some_expr v))) (converted_code (components_type UintKind count) value))
     (converted_code uint_type address)
-method_code s at number (DoesAtomic form) trees (address ∷ codes) =
+method_code buffer at number (DoesAtomic form) first constant (address ∷ codes) =
     option_and_then (λ o. option_and_then (λ a. interlocked at (bytes_target number a) (bytes_operand (type_of_code o.value)) form o) (converted_code uint_type address))
     (operands_of form codes)
-method_code s at number LoadsElement trees (index ∷ []) =
-    option_and_then (λ i. option_and_then (λ place. a_value (place_type place) at (read_form place)) (element_place s number i))
-    (index_expr (first_at trees) (first_number s trees) index)
-method_code s at number _ trees _ = None
+method_code buffer at number LoadsElement first constant (index ∷ []) =
+    option_and_then (λ i. option_and_then (λ place. a_value (place_type place) at (read_form place)) (element_in buffer number i))
+    (index_expr first constant index)
+method_code buffer at number _ first constant _ = None
 
 abbrev pub method_call_code : Scope → (at : ℕ) → (buffer : Option ℕ) → (name : List ℕ) → Trees → List Code → Option Code
 method_call_code s at buffer name trees codes =
-    option_and_then (λ number. option_and_then (λ info. option_and_then (λ method. method_code s at number method trees codes) (method_of info name)) (slice_get s.buffers number)) buffer
+    option_and_then (λ number. option_and_then (λ info. option_and_then (λ method. method_code info at number method (first_at trees) (first_number s trees) codes) (method_of info name)) (slice_get s.buffers number)) buffer
 
 -- ---- expressions
 

@@ -92,16 +92,20 @@ abbrev pub may_be_present : Presence → Bool
 may_be_present Never = false
 may_be_present _ = true
 
+-- a value, and an original that may or must be there
+abbrev pub operands_behind : {A : Type 0} → (compare : Option A) → Presence → List A → Option (Operands A)
+operands_behind compare presence (value ∷ []) = if may_be_absent presence then operands compare value None else None
+operands_behind compare presence (value ∷ original ∷ []) = if may_be_present presence then operands compare value (Some original) else None
+operands_behind compare presence _ = None
+
+-- the same behind what is compared
+abbrev pub operands_compared : {A : Type 0} → Presence → List A → Option (Operands A)
+operands_compared presence [] = None
+operands_compared presence (compare ∷ args) = operands_behind (Some compare) presence args
+
 -- the operands of an interlocked operation, in the order compare, value, original, where their number is right
 abbrev pub operands_of : {A : Type 0} → Interlocked → List A → Option (Operands A)
-operands_of {A} form args = split form.compares args
-  where
-    split : Bool → List A → Option (Operands A)
-    split false (value ∷ []) = if may_be_absent form.original then operands None value None else None
-    split false (value ∷ original ∷ []) = if may_be_present form.original then operands None value (Some original) else None
-    split true (compare ∷ value ∷ []) = if may_be_absent form.original then operands (Some compare) value None else None
-    split true (compare ∷ value ∷ original ∷ []) = if may_be_present form.original then operands (Some compare) value (Some original) else None
-    split _ _ = None
+operands_of form args = if form.compares then operands_compared form.original args else operands_behind None form.original args
 
 -- ---- methods
 

@@ -16,7 +16,7 @@ use Rattle.hl_rules.specs.Expressions.{with_two}
 use Rattle.hl_rules.specs.Scopes.{Scope}
 use Rattle.hl_rules.specs.Source.{terminal_at}
 use Rattle.hl_rules.proofs.TypeLemmas.{and-left, and-right}
-use Rattle.hl_rules.proofs.ConstantNumbers.{constant-small}
+use Rattle.hl_rules.proofs.ConstantNumbers.{number-fits}
 use Rattle.hl_rules.proofs.Fitting.{IsKnown}
 
 -- a word of 32 bits
@@ -53,7 +53,7 @@ leaf-there : (s : Scope) → IsKnown s → (leaf : Tree) → is_constant_leaf s 
 leaf-there s known leaf e = on (constant_number s leaf) refl
   where
     on : (found : Option ℕ) → constant_number s leaf ≡ found → IsWordThere (leaf_word s leaf)
-    on (Some n) h = record { word = n; is = rw h refl; fits = constant-small s known leaf n h }
+    on (Some n) h = record { word = n; is = rw h refl; fits = number-fits s known leaf n h }
     on None h =
         let own = signed-there s leaf (ap (λ o. is_some o || is_signed_or_truth s leaf) (sym h) ∙ e) in
         record { word = own.word; is = leaf-signed s leaf h ∙ own.is; fits = own.fits }

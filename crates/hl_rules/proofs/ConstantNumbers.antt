@@ -50,16 +50,16 @@ word-fits s known terminals.Number index n e = subst (λ x. x ≤ greatest_numbe
 word-fits s known terminals.Name index n e = sort-fits (sort_at s index) n (λ v m h k. known.numbers (spelled s index) v m h k) e
 word-fits s known other index n e = absurd (cc e)
 
-pub constant-small : (s : Scope) → IsKnown s → (e : Tree) (n : ℕ) → constant_number s e ≡ Some n → n ≤ greatest_number
-constant-small s known (a_primary at absent absent) n e = word-fits s known (terminal_at s.tokens at) at n e
-constant-small s known (a_primary at (present inner) absent) n e = constant-small s known inner n e
-constant-small s known (a_binary production at left mark right) n e =
-    combined-fits (terminal_at s.tokens mark) (constant_number s left) (constant_number s right) n (λ m h. constant-small s known left m h) e
-constant-small s known other n e = absurd (cc e)
+pub number-fits : (s : Scope) → IsKnown s → (e : Tree) (n : ℕ) → constant_number s e ≡ Some n → n ≤ greatest_number
+number-fits s known (a_primary at absent absent) n e = word-fits s known (terminal_at s.tokens at) at n e
+number-fits s known (a_primary at (present inner) absent) n e = number-fits s known inner n e
+number-fits s known (a_binary production at left mark right) n e =
+    combined-fits (terminal_at s.tokens mark) (constant_number s left) (constant_number s right) n (λ m h. number-fits s known left m h) e
+number-fits s known other n e = absurd (cc e)
 
 pub first-small : (s : Scope) → IsKnown s → (trees : Trees) (n : ℕ) → first_number s trees ≡ Some n → n ≤ greatest_number
 first-small s known no_trees n e = absurd (cc e)
-first-small s known (more_trees first rest) n e = constant-small s known first n e
+first-small s known (more_trees first rest) n e = number-fits s known first n e
 
 -- ---- behind one more name that is no constant number
 

@@ -17,7 +17,7 @@ use Rattle.hl_rules.specs.Sites.{buffer_or_used, expression_sites, used}
 use Rattle.hl_rules.specs.Source.{terminal_at}
 use Rattle.hl_rules.specs.Values.{is_known, bracketed_value, buffer_at, buffer_named, buffer_sort, buffer_word, element_value, indexed_value, standing_in, type_in, value_of}
 use Rattle.hl_rules.proofs.Becoming.{Becomes, IsValueIn, not-true}
-use Rattle.hl_rules.proofs.ConstantNumbers.{constant-small}
+use Rattle.hl_rules.proofs.ConstantNumbers.{number-fits}
 use Rattle.hl_rules.proofs.Fitting.{IsKnown}
 use Rattle.hl_rules.proofs.Free.{IsFree, Obeys, free-first, free-left, free-right, not_broken}
 use Rattle.hl_rules.proofs.IndexForms.{IsIndex, index-there, indexed-becomes, is_indexed, scalar-converts}
@@ -66,7 +66,7 @@ indexed-known void_type e h = absurd (cc e)
 -- what an index among free sites becomes
 index-known : (s : Scope) → IsKnown s → (operand index : Tree) → (b : Known s index) → IsFree (used s index (expression_sites s index)) → Obeys s (an_index operand index) → IsIndex s (constant_number s index) (index_expr (bare_at index) (constant_number s index) b.to)
 index-known s known operand index b free own =
-    index-there s (bare_at index) (constant_number s index) b.to (λ n e. constant-small s known index n e)
+    index-there s (bare_at index) (constant_number s index) b.to (λ n e. number-fits s known index n e)
     (scalar-converts (type_of_code b.to)
     (not-true (is_scalar (type_of_code b.to))
     (sym (ap (λ o. is_known (λ ty. not (is_scalar ty)) o) (type-known s index (type_of_code b.to) b.type (used-of s index (expression_sites s index) b free)))

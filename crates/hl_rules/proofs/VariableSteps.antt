@@ -11,7 +11,7 @@ use Rattle.hl_rules.specs.Declarations.{constant_value, init_number, is_number_t
 use Rattle.hl_rules.specs.Elaboration.{declared_constant, declared_variable}
 use Rattle.hl_rules.specs.Scopes.{Scope, named, spelled, with_global}
 use Rattle.hl_rules.specs.Statements.{struct_defs}
-use Rattle.hl_rules.proofs.ConstantNumbers.{constant-small}
+use Rattle.hl_rules.proofs.ConstantNumbers.{number-fits}
 use Rattle.hl_rules.proofs.DeclaratorForms.{IsKnownAs}
 use Rattle.hl_rules.proofs.Fitting.{FitsVariable, IsKnown}
 use Rattle.hl_rules.proofs.GlobalForms.{sound-counts}
@@ -23,7 +23,7 @@ use Rattle.hl_rules.proofs.ConstantWords.{if-there}
 
 -- the number of a constant is a word of 32 bits
 init-fits : (s : Scope) → IsKnown s → (init : Tree) (n : ℕ) → init_number s init ≡ Some n → n ≤ greatest_number
-init-fits s known (an_init at (present value) parts) n e = constant-small s known value n e
+init-fits s known (an_init at (present value) parts) n e = number-fits s known value n e
 init-fits s known other n e = absurd (cc e)
 
 value-fits : (s : Scope) → IsKnown s → (ty : Option Ty) (init : Tree) (n : ℕ) → constant_value s ty init ≡ Some n → n ≤ greatest_number

@@ -34,7 +34,7 @@ abbrev pub passed_of : (s : Scope) (params : Trees) → AreTypedParams s params 
 passed_of s no_trees typed = []
 passed_of s (more_trees first rest) typed = record { ty = typed.0.type; copying = param_copying s first } ∷ passed_of (after_param s first) rest typed.1
 
-pub passed-known : (s : Scope) (params : Trees) (typed : AreTypedParams s params) → params_known (params_info s params) ≡ Some (passed_of s params typed)
+passed-known : (s : Scope) (params : Trees) (typed : AreTypedParams s params) → params_known (params_info s params) ≡ Some (passed_of s params typed)
 passed-known s no_trees typed = refl
 passed-known s (more_trees first rest) typed =
     ap (λ o. option_and_then (λ ty. option_map (λ more. record { ty = ty; copying = param_copying s first } ∷ more) (params_known (params_info (after_param s first) rest))) o) typed.0.is
@@ -49,7 +49,7 @@ passed-declared structs s tokens (more_trees (a_param at constant direction type
 passed-declared structs s tokens (more_trees other rest) typed shape declared = absurd shape.0
 
 -- the parameters of the program's function are these
-pub callee-params : (s t : Scope) (tokens : List Lexeme) (pre more : List Variable) (number : ℕ) (params : Trees) (typed : AreTypedParams t params) → number ≡ length pre → t.tokens ≡ s.tokens → AllTrees (IsParam tokens) params → map (param_of (pre ++ (param_variables t params ++ more))) (parameters_from s number params) ≡ map param_for (passed_of t params typed)
+callee-params : (s t : Scope) (tokens : List Lexeme) (pre more : List Variable) (number : ℕ) (params : Trees) (typed : AreTypedParams t params) → number ≡ length pre → t.tokens ≡ s.tokens → AllTrees (IsParam tokens) params → map (param_of (pre ++ (param_variables t params ++ more))) (parameters_from s number params) ≡ map param_for (passed_of t params typed)
 callee-params s t tokens pre more number no_trees typed n e shape = refl
 callee-params s t tokens pre more number (more_trees (a_param at constant direction type declarator semantic) rest) typed n e shape =
     ap (λ o. option_map (λ ty. record { ty = ty; copying = copying_of s direction }) o ∷ map (param_of (pre ++ (first ∷ (param_variables behind rest ++ more)))) (parameters_from s (suc number) rest)) there

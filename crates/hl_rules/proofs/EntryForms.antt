@@ -27,7 +27,7 @@ free-items s first rest free = free-right (item_sites s first) (items_sites (aft
 -- ---- whether a function is the entry
 
 -- behind the entry none is
-pub no-entry : (s : Scope) (name : ℕ) → is_function s s.entry ≡ true → bytes_eq (spelled s name) s.entry && is_function s s.entry ≡ false → (bytes_eq (spelled s name) s.entry ≡ false)
+no-entry : (s : Scope) (name : ℕ) → is_function s s.entry ≡ true → bytes_eq (spelled s name) s.entry && is_function s s.entry ≡ false → (bytes_eq (spelled s name) s.entry ≡ false)
 no-entry s name e h = on (bytes_eq (spelled s name) s.entry) (ap (λ b. bytes_eq (spelled s name) s.entry && b) (sym e) ∙ h)
   where
     on : (named : Bool) → named && true ≡ false → named ≡ false

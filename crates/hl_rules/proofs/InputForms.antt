@@ -25,7 +25,7 @@ AreKnownParams s (more_trees first rest) = ((ty : Ty) × (param_type s first ≡
 
 -- ---- what depends on the tokens alone
 
-pub semantic-tokens : (s t : Scope) (name : Option ℕ) → s.tokens ≡ t.tokens → semantic_if s name ≡ semantic_if t name
+semantic-tokens : (s t : Scope) (name : Option ℕ) → s.tokens ≡ t.tokens → semantic_if s name ≡ semantic_if t name
 semantic-tokens s t None e = refl
 semantic-tokens s t (Some name) e = ap (λ tokens. semantic_named (text_at tokens name)) e
 

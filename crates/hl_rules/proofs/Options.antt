@@ -33,9 +33,6 @@ no-more a b e = grind arith
 pub same-text : (a b : List ℕ) → bytes_eq a b ≡ true → a ≡ b
 same-text a b e = (bytes_eq-Decides a b).0 e
 
-pub text-itself : (a : List ℕ) → bytes_eq a a ≡ true
-text-itself a = (bytes_eq-Decides a a).1 refl
-
 pub or-true : (a : Bool) → a || true ≡ true
 or-true true = refl
 or-true false = refl

@@ -165,7 +165,7 @@ position-number p before x after e h =
     within m n k = grind arith
 
 -- items keep the name of the entry
-pub entry-behind : (tokens : List Lexeme) (s : Scope) (items : Trees) → AllTrees (IsItem tokens) items → (after_items s items).entry ≡ s.entry
+entry-behind : (tokens : List Lexeme) (s : Scope) (items : Trees) → AllTrees (IsItem tokens) items → (after_items s items).entry ≡ s.entry
 entry-behind tokens s no_trees shape = refl
 entry-behind tokens s (more_trees (an_item place (a_function at attributes result name params block)) rest) shape = entry-behind tokens (with_function s result name params) rest shape.1
 entry-behind tokens s (more_trees (an_item place (a_struct at name members)) rest) shape = entry-behind tokens (after_item s (a_struct at name members)) rest shape.1

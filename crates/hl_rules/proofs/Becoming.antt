@@ -1,5 +1,5 @@
 -- An expression that breaks no rule becomes what is known of it.
-use Rattle.std.proofs.Common.{◌≡◌, ◌∙◌, refl, sym, ap, subst, ℕ, Bool, true, false, ◌||◌, not, if◌then◌else◌, nat_le, List, Option, None, Some}
+use Rattle.std.proofs.Common.{◌≡◌, ◌∙◌, refl, sym, ap, subst, ℕ, Bool, true, false, ◌||◌, not, if◌then◌else◌, nat_le, List, [], ◌∷◌, Option, None, Some}
 use Rattle.std.specs.Prelude.{◌==◌, option_map}
 use Rattle.hl_parser.specs.Trees.{Tree}
 use Rattle.hl_meaning.specs.declared.ty.Kind.{Kind}
@@ -12,9 +12,9 @@ use Rattle.hl_rules.specs.Nodes.{Code, a_place_code, a_value, a_value_code, conv
 use Rattle.hl_rules.specs.Operands.{common_kind, common_type, computing_kind, joint_type, kind_of, of_two, operand_type, operator_type, shift_type, sized}
 use Rattle.hl_rules.specs.Parts.{Site, a_use, an_operand, site}
 use Rattle.hl_rules.specs.Scopes.{Scope}
-use Rattle.hl_rules.specs.Sites.{operated, used}
+use Rattle.hl_rules.specs.Sites.{operated}
 use Rattle.hl_rules.specs.Values.{Standing, Value, a_place, is_no_operand, is_no_operand_type, is_nothing, no_place, plain_value, type_in, value_of, valued}
-use Rattle.hl_rules.proofs.Free.{IsFree, free-first, free-rest, not_broken}
+use Rattle.hl_rules.proofs.Free.{IsFree, free-first, free-left, free-rest, free-right, not_broken}
 use Rattle.hl_rules.proofs.TypeLemmas.{IsSized, sized-there, ty_eq-same}
 
 -- ---- the claim
@@ -93,12 +93,15 @@ operand-known v ty e h k = record {
 pub operated-known : (s : Scope) (e : Tree) (inside : List Site) (ty : Ty) → IsFree (operated s e inside) → (value_of s e).ty ≡ Some ty → IsOperand (value_of s e) ty
 operated-known s e inside ty free h =
     operand-known (value_of s e) ty h
-    (not_broken (is_no_operand (type_in s e)) _ (free-first (site s (an_operand e)) (used s e inside) free).obeys_32)
-    (not_broken (is_nothing (value_of s e).ty) _
-    (free-first (site s (a_use e)) inside (free-rest (site s (an_operand e)) (used s e inside) free)).obeys_39)
+    (not_broken (is_no_operand (type_in s e)) _
+    (free-first (site s (an_operand e)) [] (free-rest (site s (a_use e)) (site s (an_operand e) ∷ []) own)).obeys_32)
+    (not_broken (is_nothing (value_of s e).ty) _ (free-first (site s (a_use e)) (site s (an_operand e) ∷ []) own).obeys_39)
+  where
+    own : IsFree (site s (a_use e) ∷ site s (an_operand e) ∷ [])
+    own = free-right inside (site s (a_use e) ∷ site s (an_operand e) ∷ []) free
 
 pub operated-inside : (s : Scope) (e : Tree) (inside : List Site) → IsFree (operated s e inside) → IsFree inside
-operated-inside s e inside free = free-rest (site s (a_use e)) inside (free-rest (site s (an_operand e)) (used s e inside) free)
+operated-inside s e inside free = free-left inside (site s (a_use e) ∷ site s (an_operand e) ∷ []) free
 
 -- ---- operators between two operands
 

@@ -1,11 +1,12 @@
 -- What is free of broken rules: each rule says nothing of each of its sites.
 use Rattle.std.proofs.Common.{◌≡◌, ◌∙◌, refl, sym, ℕ, Bool, true, false, List, [], ◌∷◌, ◌++◌}
 use Rattle.std.proofs.lemmas.Grind.{flat_map-append}
-use Rattle.hl_rules.specs.DeclarationRules.{broken_if, rule_1, rule_2, rule_3, rule_4, rule_5, rule_6, rule_7, rule_8, rule_9, rule_10, rule_11, rule_12, rule_13, rule_14, rule_15, rule_16, rule_17, rule_21, rule_42}
+use Rattle.hl_rules.specs.DeclarationRules.{rule_1, rule_2, rule_3, rule_4, rule_5, rule_6, rule_7, rule_8, rule_9, rule_10, rule_11, rule_12, rule_13, rule_14, rule_15, rule_16, rule_17, rule_21, rule_42}
 use Rattle.hl_rules.specs.ExpressionRules.{rule_18, rule_19, rule_20, rule_22, rule_23, rule_24, rule_25, rule_26, rule_27, rule_28, rule_29, rule_30, rule_31, rule_32, rule_33, rule_34, rule_35, rule_36, rule_37, rule_38, rule_39, rule_40, rule_41}
-use Rattle.hl_rules.specs.Found.{Broken}
+use Rattle.hl_rules.specs.declared.found.Broken.{Broken}
+use Rattle.hl_rules.specs.Found.{breaking, broken_if}
 use Rattle.hl_rules.specs.Parts.{Part, Site}
-use Rattle.hl_rules.specs.Rules.{breaking, broken_by, broken_in}
+use Rattle.hl_rules.specs.Rules.{broken_by, broken_in}
 use Rattle.hl_rules.specs.Scopes.{Scope}
 
 -- ---- lists

@@ -3,7 +3,8 @@ use Rattle.std.proofs.Common.{◌≡◌, ◌∙◌, refl, sym, ap, subst, arith,
 use Rattle.std.specs.Prelude.{flat_map, unwrap_or}
 use Rattle.hl_lexer.specs.Tokens.{Lexeme}
 use Rattle.hl_parser.specs.Trees.{Tree}
-use Rattle.hl_rules.specs.Found.{Among, Broken, IsNotBehind, broken, first_of, gathered, is_before}
+use Rattle.hl_rules.specs.declared.found.Broken.{Broken}
+use Rattle.hl_rules.specs.Found.{Among, IsNotBehind, broken, first_of, gathered, is_before}
 use Rattle.hl_rules.specs.Laws.{OneFirst}
 use Rattle.hl_rules.specs.Parts.{Site}
 use Rattle.hl_rules.specs.Rules.{Breaks, BreaksFirst, IsFirstBroken, broken_by, broken_in}

@@ -18,6 +18,7 @@ use Rattle.hl_meaning.specs.declared.program.Semantic.TheVariants.{DispatchThrea
 use Rattle.hl_meaning.specs.Types.{Ty, component_count, is_numeric, is_scalar, ty_eq}
 use Rattle.hl_meaning.specs.WellFormed.{most_element_words, most_words}
 use Rattle.hl_rules.specs.Constants.{array_length, constant_number, most_lengths, named_type}
+use Rattle.hl_rules.specs.Found.{broken_if}
 use Rattle.hl_rules.specs.Declarations.{param_copying, param_type, params_info, at_params}
 use Rattle.hl_rules.specs.Intrinsics.{intrinsic_named}
 use Rattle.hl_rules.specs.Parts.{Part, a_brace_init, a_constant_init, a_declared, a_function_attribute, a_global_name, a_length, a_local_name, a_member_name, a_register, a_space, a_type_name, a_variable, a_call, a_whole_function, a_whole_struct, an_element, an_end, an_entry_param}

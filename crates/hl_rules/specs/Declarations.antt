@@ -184,22 +184,16 @@ abbrev pub init_number : Scope → Tree → Option ℕ
 init_number s (an_init at (present value) parts) = constant_number s value
 init_number s _ = None
 
--- the constant number that a constant's name is
+-- the constant number that a constant's name is, by what is known before its declaration
 abbrev pub constant_value : Scope → Option Ty → (init : Tree) → Option ℕ
 constant_value s ty init = if is_number_type ty then init_number s init else None
 
--- behind the declarator of a constant, whose name is a constant number or none
-abbrev pub with_constant : Scope → Option Ty → (declarator : Tree) → (number : Option ℕ) → Scope
-with_constant s ty declarator number =
-    record (with_global (named (spelled s (at_of declarator)) (variable (constant_root s.constants) ty true number)) s)
+-- Behind the declarator of a constant, so in its initialiser too. There its name is no constant number: what isn't
+-- declared before the initialiser has none.
+abbrev pub with_constant : Scope → Option Ty → (declarator init : Tree) → Scope
+with_constant s ty declarator init =
+    record (with_global (named (spelled s (at_of declarator)) (variable (constant_root s.constants) ty true (constant_value s ty init))) s)
     { constants = suc s.constants }
-
--- in the initialiser of a constant, where its name is no constant number yet
-abbrev pub in_constant : Scope → Option Ty → (declarator : Tree) → Scope
-in_constant s ty declarator = with_constant s ty declarator None
-
-abbrev pub after_constant : Scope → Option Ty → (declarator init : Tree) → Scope
-after_constant s ty declarator init = with_constant s ty declarator (constant_value (in_constant s ty declarator) ty init)
 
 -- ---- items
 
@@ -212,6 +206,6 @@ after_item s (a_buffer at kind name register space) =
     with_global (named (spelled s name) (a_buffer_name (length s.buffers))) (record s { buffers = s.buffers ++ buffer_info s kind ∷ [] })
 after_item s (a_shared at type declarators) = after_shared (named_type s type) s declarators
 after_item s (a_constant at type declarator init) =
-    after_constant s (declarator_type s (named_type s type) declarator) declarator init
+    with_constant s (declarator_type s (named_type s type) declarator) declarator init
 after_item s (a_function at attributes result name params block) = with_function s result name params
 after_item s _ = s

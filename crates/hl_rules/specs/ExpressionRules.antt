@@ -12,7 +12,8 @@ use Rattle.hl_meaning.specs.Types.{Ty, array_type, component_count, is_scalar, i
 use Rattle.hl_meaning.specs.Conversions.{converts}
 use Rattle.hl_rules.specs.Constants.{basic_type, constant_number, tree_count}
 use Rattle.hl_rules.specs.Declarations.{is_there}
-use Rattle.hl_rules.specs.DeclarationRules.{broken_if, is_known}
+use Rattle.hl_rules.specs.DeclarationRules.{is_known}
+use Rattle.hl_rules.specs.Found.{broken_if}
 use Rattle.hl_rules.specs.Intrinsics.{interlocked_form, intrinsic_named, Method, method_of}
 use Rattle.hl_rules.specs.Overloads.{Choice, Passed, is_ambiguous, none_fits}
 use Rattle.hl_rules.specs.Parts.{Part, a_call, a_cast, a_condition, a_constructor, a_conversion, a_dot, a_function_attribute, a_loop_jump, a_method_call, a_return, a_statement_attribute, a_use, a_written_side, an_index, an_operand}

@@ -1,4 +1,5 @@
--- The places of a program, and what is known at each of them.
+-- The places of a program, and what is known at each of them. The places inside a part stand before those that the part
+-- itself makes.
 use Rattle.std.specs.Prelude.{ℕ, suc, ◌&&◌, ◌||◌, not, Bool, false, if◌then◌else◌, List, [], ◌∷◌, ◌++◌, is_some, codes, Option, None, Some, bytes_eq}
 use Rattle.hl_lexer.specs.declared.terminal.Terminal.{Terminal}
 use Rattle.hl_lexer.specs.declared.terminal.Terminal.TheVariants as terminals
@@ -6,7 +7,7 @@ use Rattle.hl_lexer.specs.Tokens.{Lexeme}
 use Rattle.hl_parser.specs.Trees.{Tree, Trees, Maybe, absent, present, no_trees, more_trees, a_binary, a_block, a_buffer, a_choice, a_constant, a_declarator, a_do, a_for, a_function, a_jump, a_kind, a_local, a_member, a_param, a_postfix, a_primary, a_program, a_result, a_shared, a_start, a_stmt, a_struct, a_type, a_unary, a_while, an_args, an_attribute, an_expr, an_if, an_init, an_item, at_of}
 use Rattle.hl_meaning.specs.Types.{Ty}
 use Rattle.hl_rules.specs.Constants.{declarator_type, named_type}
-use Rattle.hl_rules.specs.Declarations.{after_first, after_item, after_param, after_start, after_statement, at_params, buffer_info, in_body, in_constant, locals_in, member_info, struct_info, with_shared}
+use Rattle.hl_rules.specs.Declarations.{after_first, after_item, after_param, after_start, after_statement, at_params, buffer_info, in_body, with_constant, locals_in, member_info, struct_info, with_shared}
 use Rattle.hl_rules.specs.Operands.{of_two, operator_type}
 use Rattle.hl_rules.specs.Parts.{Site, a_brace_init, a_call, a_cast, a_condition, a_constant_init, a_constructor, a_conversion, a_declared, a_dot, a_function_attribute, a_global_name, a_length, a_local_name, a_loop_jump, a_member_name, a_method_call, a_register, a_return, a_space, a_statement_attribute, a_type_name, a_use, a_variable, a_whole_function, a_whole_struct, a_written_side, an_element, an_end, an_entry_param, an_index, an_operand, site}
 use Rattle.hl_rules.specs.Scopes.{MemberInfo, Scope, behind, first_scope, is_function, looped, opened, spelled}
@@ -18,11 +19,11 @@ use Rattle.hl_rules.specs.Values.{buffer_at, type_in}
 -- a value that is used, with the places inside it: every expression but a statement, the first part and the step of a
 -- `for`, and what these hold in parentheses
 abbrev pub used : Scope → Tree → List Site → List Site
-used s e inside = site s (a_use e) ∷ inside
+used s e inside = inside ++ site s (a_use e) ∷ []
 
 -- an operand of an operator, with the places inside it
 abbrev pub operated : Scope → Tree → List Site → List Site
-operated s e inside = site s (an_operand e) ∷ used s e inside
+operated s e inside = inside ++ (site s (a_use e) ∷ site s (an_operand e) ∷ [])
 
 -- what stands before `.` with arguments or an index, with the places inside it: the name of a buffer stands there by itself
 abbrev pub buffer_or_used : Scope → Tree → List Site → List Site
@@ -51,37 +52,42 @@ compound_production _ = 0
 -- The sides of a compound one are operands.
 abbrev pub assignment_sites : Scope → Terminal → (left right : Tree) → (left_inside right_inside : List Site) → List Site
 assignment_sites s terminals.Equals left right left_inside right_inside =
-    site s (a_written_side left) ∷ site s (a_conversion (type_in s right) (type_in s left) (at_of right))
-    ∷ (used s left left_inside ++ used s right right_inside)
+    used s left left_inside
+    ++ (used s right right_inside
+    ++ (site s (a_written_side left) ∷ site s (a_conversion (type_in s right) (type_in s left) (at_of right)) ∷ []))
 assignment_sites s mark left right left_inside right_inside =
-    site s (a_written_side left)
+    operated s left left_inside
+    ++ (operated s right right_inside
+    ++ (site s (a_written_side left)
     ∷ site s (a_conversion (of_two (operator_type (compound_production mark)) (type_in s left) (type_in s right)) (type_in s left) (at_of right))
-    ∷ (operated s left left_inside ++ operated s right right_inside)
+    ∷ []))
 
 -- `++` and `--` write their operand
 abbrev pub prefix_sites : Scope → Terminal → (operand : Tree) → List Site → List Site
-prefix_sites s terminals.PlusPlus operand inside = site s (a_written_side operand) ∷ operated s operand inside
-prefix_sites s terminals.MinusMinus operand inside = site s (a_written_side operand) ∷ operated s operand inside
+prefix_sites s terminals.PlusPlus operand inside = operated s operand inside ++ site s (a_written_side operand) ∷ []
+prefix_sites s terminals.MinusMinus operand inside = operated s operand inside ++ site s (a_written_side operand) ∷ []
 prefix_sites s _ operand inside = operated s operand inside
 
 abbrev mutual
   -- the places in an expression
   pub expression_sites : Scope → Tree → List Site
   expression_sites s (a_primary at absent absent) = word_sites s (terminal_at s.tokens at) at
-  expression_sites s (a_primary at absent (present arguments)) = site s (a_call at arguments) ∷ argument_sites s arguments
+  expression_sites s (a_primary at absent (present arguments)) = argument_sites s arguments ++ site s (a_call at arguments) ∷ []
   expression_sites s (a_primary at (present inner) absent) = expression_sites s inner
   expression_sites s (a_primary at (present basic) (present arguments)) =
-      site s (a_constructor at basic arguments) ∷ argument_sites s arguments
+      argument_sites s arguments ++ site s (a_constructor at basic arguments) ∷ []
   expression_sites s (a_postfix at operand mark (Some name) absent) =
-      site s (a_dot operand name) ∷ used s operand (expression_sites s operand)
+      used s operand (expression_sites s operand) ++ site s (a_dot operand name) ∷ []
   expression_sites s (a_postfix at operand mark (Some name) (present arguments)) =
-      site s (a_method_call operand name arguments) ∷ (buffer_or_used s operand (expression_sites s operand) ++ argument_sites s arguments)
+      buffer_or_used s operand (expression_sites s operand)
+      ++ (argument_sites s arguments ++ site s (a_method_call operand name arguments) ∷ [])
   expression_sites s (a_postfix at operand mark None (present index)) =
-      site s (an_index operand index) ∷ (buffer_or_used s operand (expression_sites s operand) ++ used s index (expression_sites s index))
+      buffer_or_used s operand (expression_sites s operand)
+      ++ (used s index (expression_sites s index) ++ site s (an_index operand index) ∷ [])
   expression_sites s (a_postfix at operand mark None absent) =
-      site s (a_written_side operand) ∷ operated s operand (expression_sites s operand)
+      operated s operand (expression_sites s operand) ++ site s (a_written_side operand) ∷ []
   expression_sites s (a_unary at (present basic) operand) =
-      site s (a_cast at basic operand) ∷ used s operand (expression_sites s operand)
+      used s operand (expression_sites s operand) ++ site s (a_cast at basic operand) ∷ []
   expression_sites s (a_unary at absent operand) =
       prefix_sites s (terminal_at s.tokens at) operand (expression_sites s operand)
   expression_sites s (a_binary production at left mark right) =
@@ -107,7 +113,7 @@ abbrev pub value_sites : Scope → Tree → List Site
 value_sites s e = used s e (expression_sites s e)
 
 abbrev pub condition_sites : Scope → Tree → List Site
-condition_sites s e = site s (a_condition e) ∷ value_sites s e
+condition_sites s e = value_sites s e ++ site s (a_condition e) ∷ []
 
 abbrev pub condition_if : Scope → Maybe → List Site
 condition_if s absent = []
@@ -126,12 +132,12 @@ type_sites s _ = []
 abbrev pub lengths_sites : Scope → (before : ℕ) → Trees → List Site
 lengths_sites s before no_trees = []
 lengths_sites s before (more_trees first rest) =
-    site s (a_length before first) ∷ (value_sites s first ++ lengths_sites s (suc before) rest)
+    value_sites s first ++ (site s (a_length before first) ∷ lengths_sites s (suc before) rest)
 
 -- a declarator of a type: its lengths, and the type of its name
 abbrev pub declarator_sites : Scope → Option Ty → Tree → List Site
 declarator_sites s ty (a_declarator at lengths) =
-    site s (a_declared at (declarator_type s ty (a_declarator at lengths))) ∷ lengths_sites s 0 lengths
+    lengths_sites s 0 lengths ++ site s (a_declared at (declarator_type s ty (a_declarator at lengths))) ∷ []
 declarator_sites s ty _ = []
 
 -- the places in the expressions of an initialiser in braces
@@ -148,8 +154,8 @@ abbrev mutual
 -- an initialiser of a type
 abbrev pub init_sites : Scope → Option Ty → Tree → List Site
 init_sites s ty (an_init at (present value) parts) =
-    site s (a_conversion (type_in s value) ty (at_of value)) ∷ value_sites s value
-init_sites s ty (an_init at absent parts) = site s (a_brace_init (an_init at absent parts) ty) ∷ leaves_sites s parts
+    value_sites s value ++ site s (a_conversion (type_in s value) ty (at_of value)) ∷ []
+init_sites s ty (an_init at absent parts) = leaves_sites s parts ++ site s (a_brace_init (an_init at absent parts) ty) ∷ []
 init_sites s ty _ = []
 
 abbrev pub init_if : Scope → Option Ty → Maybe → List Site
@@ -160,7 +166,7 @@ init_if s ty (present init) = init_sites s ty init
 
 abbrev pub start_sites : Scope → Option Ty → Tree → List Site
 start_sites s ty (a_start at declarator init) =
-    site s (a_local_name at) ∷ (declarator_sites s ty declarator ++ init_if s (declarator_type s ty declarator) init)
+    declarator_sites s ty declarator ++ (site s (a_local_name at) ∷ init_if s (declarator_type s ty declarator) init)
 start_sites s ty _ = []
 
 abbrev pub starts_sites : Scope → Option Ty → (is_const : Bool) → Trees → List Site
@@ -180,7 +186,7 @@ first_if s (present first) = first_sites s first
 abbrev pub attributes_sites : Scope → Trees → List Site
 attributes_sites s no_trees = []
 attributes_sites s (more_trees (an_attribute at name arguments) rest) =
-    site s (a_statement_attribute name at arguments) ∷ (arguments_sites s arguments ++ attributes_sites s rest)
+    arguments_sites s arguments ++ (site s (a_statement_attribute name at arguments) ∷ attributes_sites s rest)
 attributes_sites s (more_trees _ rest) = attributes_sites s rest
 
 -- `return`, with its value, or `break` or `continue`
@@ -211,7 +217,8 @@ abbrev mutual
       attributes_sites s attributes ++ (statement_sites (looped s) body ++ condition_sites s condition)
   statement_sites s (a_jump at absent) = jump_sites s (terminal_at s.tokens at) at
   statement_sites s (a_jump at (present value)) =
-      site s (a_return at (present value)) ∷ site s (a_conversion (type_in s value) s.result (at_of value)) ∷ value_sites s value
+      value_sites s value
+      ++ (site s (a_return at (present value)) ∷ site s (a_conversion (type_in s value) s.result (at_of value)) ∷ [])
   statement_sites s e = expression_sites s e
 
   pub statements_sites : Scope → Trees → List Site
@@ -230,8 +237,9 @@ is_numthreads s name = bytes_eq (spelled s name) (codes "numthreads")
 abbrev pub function_attributes_sites : Scope → (again : Bool) → Trees → List Site
 function_attributes_sites s again no_trees = []
 function_attributes_sites s again (more_trees (an_attribute at name arguments) rest) =
-    site s (a_function_attribute again name at arguments)
-    ∷ (arguments_sites s arguments ++ function_attributes_sites s (again || is_numthreads s name) rest)
+    arguments_sites s arguments
+    ++ (site s (a_function_attribute again name at arguments)
+    ∷ function_attributes_sites s (again || is_numthreads s name) rest)
 function_attributes_sites s again (more_trees _ rest) = function_attributes_sites s again rest
 
 -- whether a function of this name is the entry: the first one that has its name
@@ -243,7 +251,7 @@ entry_sites s entry before param = if entry then site s (an_entry_param before p
 
 abbrev pub param_sites : Scope → Tree → List Site
 param_sites s (a_param at constant direction type declarator semantic) =
-    type_sites s type ++ (site s (a_local_name (at_of declarator)) ∷ declarator_sites s (named_type s type) declarator)
+    type_sites s type ++ (declarator_sites s (named_type s type) declarator ++ site s (a_local_name (at_of declarator)) ∷ [])
 param_sites s _ = []
 
 -- one more tree behind trees
@@ -254,8 +262,8 @@ and_tree (more_trees first rest) tree = more_trees first (and_tree rest tree)
 abbrev pub params_sites : Scope → (entry : Bool) → (before : Trees) → Trees → List Site
 params_sites s entry before no_trees = []
 params_sites s entry before (more_trees first rest) =
-    entry_sites s entry before first
-    ++ (param_sites s first ++ params_sites (after_param s first) entry (and_tree before first) rest)
+    param_sites s first
+    ++ (entry_sites s entry before first ++ params_sites (after_param s first) entry (and_tree before first) rest)
 
 -- the statements of a function's block are one block with the parameters
 abbrev pub body_sites : Scope → Tree → List Site
@@ -271,9 +279,9 @@ result_sites s _ = []
 abbrev pub declarators_sites : Scope → Option Ty → (before : List MemberInfo) → Trees → List Site
 declarators_sites s ty before no_trees = []
 declarators_sites s ty before (more_trees first rest) =
-    site s (a_member_name before (at_of first))
-    ∷ (declarator_sites s ty first
-    ++ declarators_sites s ty (before ++ record { name = spelled s (at_of first); ty = declarator_type s ty first } ∷ []) rest)
+    declarator_sites s ty first
+    ++ (site s (a_member_name before (at_of first))
+    ∷ declarators_sites s ty (before ++ record { name = spelled s (at_of first); ty = declarator_type s ty first } ∷ []) rest)
 
 abbrev pub members_sites : Scope → (before : List MemberInfo) → Trees → List Site
 members_sites s before no_trees = []
@@ -284,7 +292,7 @@ members_sites s before (more_trees (a_member at type declarators) rest) =
 members_sites s before (more_trees _ rest) = members_sites s before rest
 
 abbrev pub element_sites : Scope → Tree → List Site
-element_sites s (a_kind at (present type)) = site s (an_element type) ∷ type_sites s type
+element_sites s (a_kind at (present type)) = type_sites s type ++ site s (an_element type) ∷ []
 element_sites s _ = []
 
 abbrev pub register_sites : Scope → (writable : Bool) → Option ℕ → Option ℕ → List Site
@@ -301,30 +309,32 @@ register_sites s writable register space = register_site register ++ space_site 
 abbrev pub shared_sites : Option Ty → Scope → Trees → List Site
 shared_sites ty s no_trees = []
 shared_sites ty s (more_trees first rest) =
-    site s (a_global_name (at_of first)) ∷ (declarator_sites s ty first ++ shared_sites ty (with_shared ty s first) rest)
+    declarator_sites s ty first ++ (site s (a_global_name (at_of first)) ∷ shared_sites ty (with_shared ty s first) rest)
 
 -- the initialiser of a constant of a type
 abbrev pub constant_sites : Scope → Option Ty → (declarator init : Tree) → List Site
 constant_sites s ty declarator init =
-    site (in_constant s ty declarator) (a_constant_init init) ∷ init_sites (in_constant s ty declarator) ty init
+    init_sites (with_constant s ty declarator init) ty init
+    ++ site (with_constant s ty declarator init) (a_constant_init init) ∷ []
 
 abbrev pub item_sites : Scope → Tree → List Site
 item_sites s (an_item at item) = item_sites s item
 item_sites s (a_struct at name members) =
-    site s (a_global_name name) ∷ site s (a_whole_struct name (struct_info s name members).words) ∷ members_sites s [] members
+    members_sites s [] members
+    ++ (site s (a_global_name name) ∷ site s (a_whole_struct name (struct_info s name members).words) ∷ [])
 item_sites s (a_buffer at kind name register space) =
     element_sites s kind ++ (site s (a_global_name name) ∷ register_sites s (buffer_info s kind).writable register space)
 item_sites s (a_shared at type declarators) = type_sites s type ++ shared_sites (named_type s type) s declarators
 item_sites s (a_constant at type declarator init) =
     type_sites s type
+    ++ (declarator_sites s (named_type s type) declarator
     ++ (site s (a_global_name (at_of declarator))
-    ∷ (declarator_sites s (named_type s type) declarator
-    ++ constant_sites s (declarator_type s (named_type s type) declarator) declarator init))
+    ∷ constant_sites s (declarator_type s (named_type s type) declarator) declarator init))
 item_sites s (a_function at attributes result name params block) =
     function_attributes_sites s false attributes
     ++ (result_sites s result
-    ++ (site s (a_whole_function attributes result name params block)
-    ∷ (params_sites (at_params s result) (is_entry s name) no_trees params ++ body_sites (in_body s result name params) block)))
+    ++ (params_sites (at_params s result) (is_entry s name) no_trees params
+    ++ (site s (a_whole_function attributes result name params block) ∷ body_sites (in_body s result name params) block)))
 item_sites s _ = []
 
 -- ---- programs

@@ -27,13 +27,7 @@ fn first_of(found: Option<Broken>, other: Broken) -> Broken
 {
     match found {
         None => other,
-        Some(first) => {
-            if other.is_before(first) {
-                other
-            } else {
-                first
-            }
-        }
+        Some(first) => { if other.is_before(first) { other } else { first } }
     }
 }
 

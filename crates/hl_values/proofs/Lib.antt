@@ -1,1 +1,4 @@
-pub mod Basics
+pub mod BasicLemmas
+pub mod FormLemmas
+pub mod NodeLemmas
+pub mod StepLemmas

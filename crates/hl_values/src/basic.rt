@@ -1,13 +1,15 @@
 //! Scalars and vectors, on which operators work.
 
-ghost use Rattle.std.specs.Prelude.{◌≡◌, Some, option_map};
+ghost use Rattle.std.specs.Prelude.{◌≡◌, IfOk, Some, option_map};
 ghost use Rattle.hl_meaning.specs.Types.{component_count, components_type, is_of, is_scalar, is_void, with_kind};
 ghost use Rattle.hl_meaning.specs.Views.{plain_ty};
 ghost use Rattle.hl_rules.specs.Operands.{branch_kind, common_kind, computing_kind, kind_of, number_kind, sized};
 ghost use Rattle.hl_rules.specs.Values.{operand_of};
 ghost use Rattle.hl_values.specs.Basics.{basic_ty};
 
+use base_core::NoMemory;
 use hl_meaning::{HlType, Kind};
+use std::alloc::Global;
 
 /// A scalar, or a vector of so many components, of a kind.
 #[derive(Clone, Copy, Debug, PartialEq, Eq)]
@@ -81,6 +83,31 @@ impl Basic {
                 Basic::Vector(kind, size.min(length))
             }
         }
+    }
+}
+
+/// The kind of a type, which is that of an int where it is neither a scalar nor a vector.
+pub fn kind_of(ty: &HlType) -> Kind
+    ensures { result ≡ kind_of (plain_ty ty.now) }
+{
+    match ty {
+        HlType::Scalar(kind) => *kind,
+        HlType::Vector(kind, _) => *kind,
+        _ => Kind::Int,
+    }
+}
+
+/// The scalar or the vector of another kind, and any other type as it is.
+///
+/// # Errors
+/// `NoMemory` where memory is refused.
+pub fn with_kind(kind: Kind, ty: &HlType, alloc: Global) -> Result<HlType, NoMemory>
+    ensures { IfOk result (λ own. plain_ty own ≡ with_kind kind (plain_ty ty.now)) }
+{
+    match ty {
+        HlType::Scalar(_) => Ok(HlType::Scalar(kind)),
+        HlType::Vector(_, size) => Ok(HlType::Vector(kind, *size)),
+        _ => ty.copied(alloc),
     }
 }
 

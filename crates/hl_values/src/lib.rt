@@ -2,7 +2,11 @@
 #![tactic(auto)]
 
 mod basic;
+mod forms;
+mod nodes;
 mod operators;
+mod standing;
+mod steps;
 mod typed;
 
 pub use basic::{Basic, components_type, is_of, is_scalar, is_void};

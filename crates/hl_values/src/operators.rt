@@ -181,10 +181,16 @@ pub fn valued(ty: &Option<HlType>) -> Option<&HlType>
     ensures { plain_type_if (option_copied result) ≡ valued (plain_type_if ty.now) }
 {
     match ty {
-        Some(HlType::Void) => None,
-        Some(ty) => Some(ty),
+        Some(ty) => value_type(ty),
         None => None,
     }
+}
+
+/// A type, where it isn't no value.
+fn value_type(ty: &HlType) -> Option<&HlType>
+    ensures { plain_type_if (option_copied result) ≡ valued (Some (plain_ty ty.now)) }
+{
+    if is_void(ty) { None } else { Some(ty) }
 }
 
 /// The type of an operand, where it is a scalar or a vector.

@@ -1,14 +1,14 @@
 //! Steps into places and values: members, indexes and swizzles.
 
-ghost use Rattle.std.specs.Prelude.{◌≡◌, IfOk, Some, slice_index_or, ◌∷◌, []};
-ghost use Rattle.hl_meaning.specs.Trees.{swizzle_part};
+ghost use Rattle.std.specs.Prelude.{◌≡◌, IfOk, List, Some, map, slice_index_or, [], ◌∷◌, ◌++◌};
+ghost use Rattle.hl_meaning.specs.Trees.{more_parts, no_parts, swizzle_part};
 ghost use Rattle.hl_meaning.specs.Views.{plain_expr, plain_part, plain_parts, plain_ty};
 ghost use Rattle.hl_rules.specs.Nodes.{a_value_code, and_part, joined, with_part};
 ghost use Rattle.hl_rules.specs.Values.{is_longer, merged_letters};
 ghost use Rattle.hl_values.specs.Steps.{joined_as, picked_as};
 ghost use Rattle.hl_values.specs.Views.{plain_code};
 
-use crate::nodes::{location, node};
+use crate::nodes::{location, node, value_node};
 use crate::typed::Code;
 use base_core::{Bytes, NoMemory};
 use hl_meaning::{Expr, Form, HlType, Location, PathPart, PathParts};
@@ -151,15 +151,12 @@ pub fn with_part(
 {
     match code {
         Code::Place { place, .. } => {
-            let Location { root, parts, .. } = place;
+            let Location { root, parts, .. } = place.into_inner();
             let parts = and_part(parts, part, alloc)?;
-            let place = location(ty, root, parts);
+            let place = Boxed::new(alloc, location(ty, root, parts))?;
             Ok(Code::Place { at, place })
         }
-        Code::Value(value) => {
-            let picked = with_pick(at, part, ty, value, alloc)?;
-            Ok(Code::Value(picked))
-        }
+        Code::Value(value) => with_pick(at, part, ty, value.into_inner(), alloc),
     }
 }
 
@@ -170,8 +167,8 @@ fn with_pick(
     ty: HlType,
     value: Expr,
     alloc: Global,
-) -> Result<Expr, NoMemory>
-    ensures { IfOk result (λ picked. a_value_code (plain_expr picked) ≡ with_part at (plain_part part) (plain_ty ty) (a_value_code (plain_expr value))) }
+) -> Result<Code, NoMemory>
+    ensures { IfOk result (λ picked. plain_code picked ≡ with_part at (plain_part part) (plain_ty ty) (a_value_code (plain_expr value))) }
 {
     let Expr {
         ty: own,
@@ -181,13 +178,21 @@ fn with_pick(
     match form {
         Form::Pick { value, parts } => {
             let parts = and_part(parts, part, alloc)?;
-            Ok(node(ty, at, Form::Pick { value, parts }))
+            value_node(ty, at, Form::Pick { value, parts }, alloc)
         }
         form => {
             let value = Boxed::new(alloc, node(own, first, form))?;
-            let mut parts = Items::new(alloc);
-            parts.push(part)?;
-            Ok(node(ty, at, Form::Pick { value, parts }))
+            let parts = one_part(part, alloc)?;
+            value_node(ty, at, Form::Pick { value, parts }, alloc)
         }
     }
+}
+
+/// A step alone.
+fn one_part(part: PathPart, alloc: Global) -> Result<PathParts, NoMemory>
+    ensures { IfOk result (λ parts. plain_parts parts ≡ more_parts (plain_part part) no_parts) }
+{
+    let mut parts = Items::new(alloc);
+    parts.push(part)?;
+    Ok(parts)
 }

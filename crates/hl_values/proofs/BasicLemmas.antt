@@ -1,17 +1,18 @@
 -- Scalars, vectors and the types that operators give to them.
-use Rattle.std.proofs.Common.{◌≡◌, ◌∙◌, refl, sym, ap, subst, ℕ, Bool, true, false, if◌then◌else◌, nat_le, ◌==◌, List, [], ◌∷◌, map, drop, length, get_or, ◌<◌, ◌+◌, Option, None, Some}
+use Rattle.std.proofs.Common.{◌≡◌, ◌∙◌, refl, sym, ap, subst, ℕ, Bool, true, false, if◌then◌else◌, nat_le, not, ◌&&◌, ◌||◌, ◌==◌, List, [], ◌∷◌, map, drop, length, get_or, ◌<◌, ◌+◌, Option, None, Some, eq-eqb}
+use Rattle.std.proofs.lemmas.Bool.{ne_eqb}
 use Rattle.std.specs.Prelude.{option_map, option_and_then}
 use Rattle.std.proofs.lemmas.List.{at_drop_more}
 use Rattle.hl_meaning.specs.declared.ty.Kind.{Kind}
 use Rattle.hl_meaning.specs.declared.ty.Kind.TheVariants.{Bool as BoolKind}
 use Rattle.hl_meaning.specs.declared.ty.HlType.{HlType}
 use Rattle.hl_meaning.specs.declared.ty.HlType.TheVariants.{Void, Scalar, Vector}
-use Rattle.hl_meaning.specs.Types.{Ty, array_type, is_basic, scalar_type, struct_type, vector_type, void_type}
+use Rattle.hl_meaning.specs.Types.{Ty, array_type, components_type, is_basic, is_void, scalar_type, struct_type, vector_type, void_type, with_kind}
 use Rattle.hl_meaning.specs.Views.{plain_ty}
 use Rattle.hl_meaning.proofs.Plain.{plain_ty-Array, plain_ty-Scalar, plain_ty-Struct, plain_ty-Vector, plain_ty-Void}
 use Rattle.hl_meaning.proofs.TypeLemmas.{type_cases}
 use Rattle.hl_rules.specs.Operands.{branch_kind, choice_type, common_behind, common_type, kind_of, negated_type, operand_type, operator_type, signed_type, sized}
-use Rattle.hl_rules.specs.Values.{operand_of}
+use Rattle.hl_rules.specs.Values.{is_no_operand, operand_of, valued}
 
 -- ---- what is held
 
@@ -41,6 +42,20 @@ other_than_void P scalar vector array struct = type_cases (λ o. (o ≡ Void →
     (λ k n not_void. subst P (sym (plain_ty-Vector k n)) (vector k n))
     (λ e n not_void. subst P (sym (plain_ty-Array e n)) (array (plain_ty e) n))
     (λ n not_void. subst P (sym (plain_ty-Struct n)) (struct n))
+
+pub components-one : (kind : Kind) (n : ℕ) → n ≡ 1 → components_type kind n ≡ scalar_type kind
+components-one kind n e = ap (λ b. if b then scalar_type kind else vector_type kind n) (eq-eqb n 1 e)
+
+pub components-more : (kind : Kind) (n : ℕ) → (n ≡ 1 → ⊥) → components_type kind n ≡ vector_type kind n
+components-more kind n e = ap (λ b. if b then scalar_type kind else vector_type kind n) (ne_eqb n 1 e)
+
+pub with_kind-other : (kind : Kind) (o : HlType) → ((k : Kind) → o ≡ Scalar k → ⊥) → ((k : Kind) (n : ℕ) → o ≡ Vector k n → ⊥) → with_kind kind (plain_ty o) ≡ plain_ty o
+with_kind-other kind = type_cases (λ o. ((k : Kind) → o ≡ Scalar k → ⊥) → ((k : Kind) (n : ℕ) → o ≡ Vector k n → ⊥) → with_kind kind (plain_ty o) ≡ plain_ty o)
+    (λ not_scalar not_vector. ap (with_kind kind) plain_ty-Void ∙ sym plain_ty-Void)
+    (λ k not_scalar not_vector. absurd (not_scalar k refl))
+    (λ k n not_scalar not_vector. absurd (not_vector k n refl))
+    (λ e n not_scalar not_vector. ap (with_kind kind) (plain_ty-Array e n) ∙ sym (plain_ty-Array e n))
+    (λ n not_scalar not_vector. ap (with_kind kind) (plain_ty-Struct n) ∙ sym (plain_ty-Struct n))
 
 -- ---- operands
 
@@ -88,10 +103,10 @@ operand-none_right p a b e =
     if-same (nat_le p 31) _ _ None (sized-none_right _ a b e) (if-same (p == 37) _ _ None (sized-none_right _ a b e) (sized-none_right _ a b e))
 
 pub operator-none_left : (p : ℕ) (a b : Ty) → None ≡ operand_of (Some a) → operator_type p a b ≡ None
-operator-none_left p a b e = ap (λ o. option_map _ o) (operand-none_left p a b e)
+operator-none_left p a b e = ap (λ o. option_map (λ ty. if p == 35 || p == 36 then with_kind BoolKind ty else ty) o) (operand-none_left p a b e)
 
 pub operator-none_right : (p : ℕ) (a b : Ty) → None ≡ operand_of (Some b) → operator_type p a b ≡ None
-operator-none_right p a b e = ap (λ o. option_map _ o) (operand-none_right p a b e)
+operator-none_right p a b e = ap (λ o. option_map (λ ty. if p == 35 || p == 36 then with_kind BoolKind ty else ty) o) (operand-none_right p a b e)
 
 -- what two operands give
 pub of_operands : (f : Ty → Ty → Option Ty) (a b x y r t : Ty) → Some x ≡ operand_of (Some a) → Some y ≡ operand_of (Some b) → Some r ≡ f x y → t ≡ r → Some t ≡ f a b
@@ -131,6 +146,29 @@ negated-none (vector_type k n) e = absurd (cc e)
 negated-none void_type e = refl
 negated-none (array_type t n) e = refl
 negated-none (struct_type n) e = refl
+
+-- ---- values
+
+pub valued-void : (t : Ty) → is_void t ≡ true → valued (Some t) ≡ None
+valued-void void_type e = refl
+valued-void (scalar_type k) e = absurd (cc e)
+valued-void (vector_type k n) e = absurd (cc e)
+valued-void (array_type t n) e = absurd (cc e)
+valued-void (struct_type n) e = absurd (cc e)
+
+pub valued-other : (t : Ty) → is_void t ≡ false → valued (Some t) ≡ Some t
+valued-other void_type e = absurd (cc e)
+valued-other (scalar_type k) e = refl
+valued-other (vector_type k n) e = refl
+valued-other (array_type t n) e = refl
+valued-other (struct_type n) e = refl
+
+pub no_operand-is : (t : Ty) → is_no_operand (Some t) ≡ (not (is_basic t) && not (is_void t))
+no_operand-is void_type = refl
+no_operand-is (scalar_type k) = refl
+no_operand-is (vector_type k n) = refl
+no_operand-is (array_type t n) = refl
+no_operand-is (struct_type n) = refl
 
 -- ---- several operands
 

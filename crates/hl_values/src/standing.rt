@@ -1,7 +1,7 @@
 //! Whether expressions are places, and the letters of swizzles.
 
-ghost use Rattle.std.specs.Prelude.{◌≡◌, ◌≤◌, ◌==◌, if◌then◌else◌, IfOk, IfSome, List, Some, [], ◌∷◌, length, position, slice_index_or};
-ghost use Rattle.std.specs.List.{list_any};
+ghost use Rattle.std.specs.Prelude.{◌≡◌, ◌<◌, ◌≤◌, ◌==◌, if◌then◌else◌, IfOk, IfSome, List, Some, [], ◌∷◌, length, nat_lt, position, slice_index_or};
+ghost use Rattle.std.specs.List.{list_all, list_any};
 ghost use Rattle.hl_meaning.specs.Places.{is_without_repeats};
 ghost use Rattle.hl_rules.specs.ExpressionRules.{is_unwritable, needs_constant_index};
 ghost use Rattle.hl_rules.specs.Values.{indexed, is_longer, letters_in, letters_within, may_be_written, stepped, swizzle_letters, swizzled};
@@ -167,11 +167,21 @@ pub fn letters_within(size: u8, name: &[u8], alloc: Global) -> Result<Option<Byt
 {
     match swizzle_letters(name, alloc)? {
         Some(letters) => {
-            let within = letters.as_slice().iter().all(|letter| *letter < size);
-            if within { Ok(Some(letters)) } else { Ok(None) }
+            if are_below(letters.as_slice(), size) {
+                Ok(Some(letters))
+            } else {
+                Ok(None)
+            }
         }
         None => Ok(None),
     }
+}
+
+/// Whether all letters are below a number.
+fn are_below(letters: &[u8], size: u8) -> bool
+    ensures { result ≡ list_all (λ letter. nat_lt letter size) letters.now }
+{
+    letters.iter().all(|letter| *letter < size)
 }
 
 /// The letters of a swizzle: up to four, all of `xyzw` or all of `rgba`.
@@ -211,6 +221,14 @@ fn letters_in(
 fn letter_in(alphabet: &[u8; 4], letter: u8) -> Option<u8>
     ensures { result ≡ position (λ x. x == letter) alphabet.now }
 {
-    let place = alphabet.iter().position(|x| *x == letter)?;
+    let place = place_of(alphabet, letter)?;
     Some(place as u8)
+}
+
+/// Where a byte stands first among bytes.
+fn place_of(bytes: &[u8], byte: u8) -> Option<usize>
+    ensures value { result ≡ position (λ x. x == byte) bytes.now }
+    ensures within { IfSome result (λ place. place < length bytes.now) }
+{
+    bytes.iter().position(|x| *x == byte)
 }

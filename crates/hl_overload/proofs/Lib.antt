@@ -3,3 +3,4 @@ pub mod FitLemmas
 pub mod BestLemmas
 pub mod Turns
 pub mod OneChoice
+pub mod Computed

@@ -1,137 +1,104 @@
--- Names, members, swizzles and indexes become what is known of them.
-use Rattle.std.proofs.Common.{◌≡◌, ◌∙◌, refl, sym, ap, subst, ℕ, Bool, true, false, List, length, Option, None, Some}
-use Rattle.std.specs.Prelude.{is_none, option_map, slice_get}
-use Rattle.hl_meaning.specs.declared.ty.Kind.{Kind}
-use Rattle.hl_meaning.specs.Types.{Ty, array_type, components_type, is_void, scalar_type, struct_type, vector_type, void_type}
-use Rattle.hl_meaning.specs.Trees.{Expr, PathPart, a_location, an_expr, index_part, member_part, no_parts, pick_form, swizzle_part, type_of}
+-- Names of variables and elements of buffers become places.
+use Rattle.std.proofs.Common.{◌≡◌, ◌∙◌, refl, sym, ap, subst, ℕ, Bool, true, false, not, if◌then◌else◌, List, [], Option, None, Some}
+use Rattle.std.specs.Prelude.{◌==◌, is_none, option_and_then, option_map, slice_get}
+use Rattle.hl_meaning.specs.Types.{Ty, uint_type}
+use Rattle.hl_meaning.specs.Trees.{Expr, Root, a_location, constant_root, element_root, no_parts, shared_root, type_of, variable_root}
+use Rattle.hl_meaning.specs.Places as places
+use Rattle.hl_meaning.specs.Places.{element_type, is_atomic_root, is_writable, is_writable_root, path_type, reached_type, root_type}
+use Rattle.hl_meaning.specs.WellFormed.{IsExpr, IsRoot}
 use Rattle.hl_rules.specs.DeclarationRules.{is_other_sort, is_variable_sort}
-use Rattle.hl_rules.specs.ExpressionRules.{is_no_member, is_no_swizzle}
-use Rattle.hl_rules.specs.Expressions.{dotted_into, indexed_into, member_code, swizzled_code, variable_code}
-use Rattle.hl_rules.specs.Nodes.{Code, a_place_code, a_value_code, type_of_code, with_part}
+use Rattle.hl_rules.specs.Expressions.{element_place, variable_code}
+use Rattle.hl_rules.specs.Nodes.{a_place_code}
 use Rattle.hl_rules.specs.Scopes.{BufferInfo, Scope, Sort, VariableInfo, a_buffer_name, a_function_name, a_struct_name, a_variable_name, sort_of}
-use Rattle.hl_rules.specs.Values.{Standing, a_place, dotted_value, indexed, indexed_value, letters_within, member_number, member_type, members_of, no_place, sort_value, stepped, swizzle_value, swizzled, unclear, value}
-use Rattle.hl_rules.proofs.Becoming.{Agrees, Becomes}
-
--- ---- scopes
-
--- All that a scope knows has types, and its numbers name what is there. So it is where no rule is broken so far.
-pub record IsKnown (s : Scope) : Type 0 where
-  pub variables : (name : List ℕ) (v : VariableInfo) → sort_of s name ≡ Some (a_variable_name v) → (ty : Ty) × (v.ty ≡ Some ty)
-  pub members : (number member : ℕ) (name : List ℕ) → member_number (members_of s number) name ≡ Some member → (ty : Ty) × (member_type s number name ≡ Some ty)
-  pub buffers : (name : List ℕ) (number : ℕ) → sort_of s name ≡ Some (a_buffer_name number) → (buffer : BufferInfo) × (slice_get s.buffers number ≡ Some buffer)
-  pub elements : (number : ℕ) (buffer : BufferInfo) → slice_get s.buffers number ≡ Some buffer → buffer.raw ≡ false → (ty : Ty) × (buffer.element ≡ Some ty)
+use Rattle.hl_rules.specs.Values.{a_place, element_value, is_shared_root, sort_value, value}
+use Rattle.hl_rules.proofs.Becoming.{Becomes, IsValueIn}
+use Rattle.hl_rules.proofs.Fitting.{Fits, FitsBuffer, FitsVariable, IsKnown, IsStanding, is_element_root}
 
 -- ---- names
 
+from-not : (b : Bool) → not b ≡ true → b ≡ false
+from-not false e = refl
+from-not true e = absurd (cc e)
+
+whole-root : (env : places.Scope) (root : Root) → is_element_root root ≡ false → IsRoot env root
+whole-root env (variable_root number) e = tt
+whole-root env (constant_root number) e = tt
+whole-root env (shared_root number) e = tt
+whole-root env (element_root resource index) e = absurd (cc e)
+
+shared-atomic : (env : places.Scope) (root : Root) → is_shared_root root ≡ true → is_atomic_root env root ≡ true
+shared-atomic env (shared_root number) e = refl
+shared-atomic env (variable_root number) e = absurd (cc e)
+shared-atomic env (constant_root number) e = absurd (cc e)
+shared-atomic env (element_root resource index) e = absurd (cc e)
+
+-- the place where something begins
+pub root-reached : (env : places.Scope) (root : Root) (ty : Ty) → root_type env root ≡ Some ty → reached_type env root no_parts ≡ Some ty
+root-reached env root ty e = ap (λ o. option_and_then (λ t. path_type env.structs t no_parts) o) e
+
+variable-stands : (env : places.Scope) (v : VariableInfo) (ty : Ty) → FitsVariable env v ty → IsStanding env (not v.is_const) (is_shared_root v.root) [] ty v.root no_parts
+variable-stands env v ty f = record {
+  is = (f.declared, whole-root env v.root f.whole, tt, root-reached env v.root ty f.type);
+  writes = λ e. f.writes (from-not v.is_const e);
+  shares = shared-atomic env v.root;
+  ends = refl;
+}
+
 -- a name that is declared as a variable becomes its place
-pub name-becomes : (at : ℕ) (sort : Option Sort) → ((v : VariableInfo) → sort ≡ Some (a_variable_name v) → (ty : Ty) × (v.ty ≡ Some ty)) → is_none sort ≡ false → is_other_sort is_variable_sort sort ≡ false → Becomes (sort_value sort) (variable_code at sort)
-name-becomes at None known e h = absurd (cc e)
-name-becomes at (Some (a_variable_name v)) known e h = record {
+variable-becomes : (s : Scope) (at : ℕ) (sort : Option Sort) → ((v : VariableInfo) → sort ≡ Some (a_variable_name v) → (ty : Ty) × (v.ty ≡ Some ty)) → ((v : VariableInfo) (ty : Ty) → sort ≡ Some (a_variable_name v) → v.ty ≡ Some ty → (env : places.Scope) → Fits env s → FitsVariable env v ty) → is_none sort ≡ false → is_other_sort is_variable_sort sort ≡ false → Becomes s (sort_value sort) (variable_code at sort)
+variable-becomes s at None known fits e h = absurd (cc e)
+variable-becomes s at (Some (a_variable_name v)) known fits e h = record {
   to = a_place_code at (a_location (known v refl).0 v.root no_parts);
   is = ap (λ o. option_map (λ ty. a_place_code at (a_location ty v.root no_parts)) o) (known v refl).1;
   type = (known v refl).1;
   agrees = tt;
+  fits = λ env f. variable-stands env v (known v refl).0 (fits v (known v refl).0 refl (known v refl).1 env f);
 }
-name-becomes at (Some (a_struct_name number)) known e h = absurd (cc h)
-name-becomes at (Some (a_buffer_name number)) known e h = absurd (cc h)
-name-becomes at (Some a_function_name) known e h = absurd (cc h)
+variable-becomes s at (Some (a_struct_name number)) known fits e h = absurd (cc h)
+variable-becomes s at (Some (a_buffer_name number)) known fits e h = absurd (cc h)
+variable-becomes s at (Some a_function_name) known fits e h = absurd (cc h)
 
--- ---- steps
+pub name-becomes : (s : Scope) → IsKnown s → (at : ℕ) (name : List ℕ) → is_none (sort_of s name) ≡ false → is_other_sort is_variable_sort (sort_of s name) ≡ false → Becomes s (sort_value (sort_of s name)) (variable_code at (sort_of s name))
+name-becomes s known at name e h =
+    variable-becomes s at (sort_of s name) (λ v k. known.variables name v k) (λ v ty k l env f. f.variables name v ty k l) e h
 
--- what a step leads to: something of the type that is stated
-pub record IsStepped (ty : Ty) (value : Expr) (made : Code) : Type 0 where
-  pub to : Expr
-  pub is : made ≡ a_value_code to
-  pub type : type_of to ≡ ty
+-- ---- elements
 
-pub value-part : (at : ℕ) (part : PathPart) (ty : Ty) (e : Expr) → IsStepped ty e (with_part at part ty (a_value_code e))
-value-part at part ty (an_expr from first (pick_form value parts)) = record { to = _; is = refl; type = refl }
-value-part at part ty (an_expr from first form) = record { to = _; is = refl; type = refl }
+element-root : (raw own : Bool) (element ty : Ty) → raw ≡ own → own ≡ false → element ≡ ty → (if raw then None else Some element) ≡ Some ty
+element-root raw own element ty e h k = rw e (rw h (ap Some k))
 
-pub part-type : (at : ℕ) (part : PathPart) (ty : Ty) (code : Code) → type_of_code (with_part at part ty code) ≡ ty
-part-type at part ty (a_place_code first (a_location from root parts)) = refl
-part-type at part ty (a_value_code e) = ap (λ c. type_of_code c) (value-part at part ty e).is ∙ (value-part at part ty e).type
+one-class : (class : ℕ) (writable : Bool) → class ≡ (if writable then 1 else 0) → writable ≡ true → class == 1 ≡ true
+one-class class true e h = ap (λ n. n == 1) e
+one-class class false e h = absurd (cc h)
 
--- whether both are places, or both are none
-abbrev pub IsAlike : Standing → Standing → Type 0
-IsAlike (a_place w a letters) (a_place v b others) = Unit {0}
-IsAlike no_place no_place = Unit {0}
-IsAlike _ _ = ⊥
+buffer-writes : (env : places.Scope) (number : ℕ) (buffer : BufferInfo) → FitsBuffer env number buffer → buffer.writable ≡ true → is_writable (slice_get env.resources number) ≡ true
+buffer-writes env number buffer f e = ap (λ o. is_writable o) f.there ∙ one-class f.resource.class buffer.writable f.class e
 
-pub part-agrees : (at : ℕ) (part : PathPart) (ty : Ty) (before after : Standing) (code : Code) → Agrees before code → IsAlike before after → Agrees after (with_part at part ty code)
-part-agrees at part ty (a_place w a letters) (a_place v b others) (a_place_code first (a_location from root parts)) h k = tt
-part-agrees at part ty no_place no_place (a_value_code e) h k = subst (λ c. Agrees no_place c) (sym (value-part at part ty e).is) tt
-part-agrees at part ty (a_place w a letters) (a_place v b others) (a_value_code e) h k = absurd h
-part-agrees at part ty no_place no_place (a_place_code first place) h k = absurd h
-part-agrees at part ty (a_place w a letters) no_place code h k = absurd k
-part-agrees at part ty (a_place w a letters) unclear code h k = absurd k
-part-agrees at part ty no_place (a_place v b others) code h k = absurd k
-part-agrees at part ty no_place unclear code h k = absurd k
-part-agrees at part ty unclear after code h k = absurd k
-
--- a step into something
-pub part-becomes : (at : ℕ) (part : PathPart) (ty : Ty) (before after : Standing) (code : Code) → Agrees before code → IsAlike before after → Becomes (value (Some ty) after) (Some (with_part at part ty code))
-part-becomes at part ty before after code h k = record {
-  to = with_part at part ty code;
-  is = refl;
-  type = ap Some (sym (part-type at part ty code));
-  agrees = part-agrees at part ty before after code h k;
+pub element-stands : (env : places.Scope) (number : ℕ) (buffer : BufferInfo) (ty : Ty) (index : Expr) → FitsBuffer env number buffer → buffer.raw ≡ false → buffer.element ≡ Some ty → IsExpr env index → type_of index ≡ uint_type → IsStanding env buffer.writable buffer.writable [] ty (element_root number index) no_parts
+element-stands env number buffer ty index f e h k l = record {
+  is = ((f.element ty e h).1,
+  (k, l),
+  tt,
+  root-reached env (element_root number index) ty
+  (ap (λ o. option_and_then element_type o) f.there ∙ element-root f.resource.raw buffer.raw f.resource.element ty f.raw e (f.element ty e h).0));
+  writes = buffer-writes env number buffer f;
+  shares = buffer-writes env number buffer f;
+  ends = refl;
 }
 
--- what agrees with something isn't unclear, so each step keeps it alike
-pub stepped-alike : (standing : Standing) (code : Code) → Agrees standing code → IsAlike standing (stepped standing)
-stepped-alike (a_place w a letters) code h = tt
-stepped-alike no_place code h = tt
-stepped-alike unclear code h = absurd h
+pub element-there : (s : Scope) (number : ℕ) (buffer : BufferInfo) (ty : Ty) (index : Expr) → slice_get s.buffers number ≡ Some buffer → buffer.raw ≡ false → buffer.element ≡ Some ty → element_place s number index ≡ Some (a_location ty (element_root number index) no_parts)
+element-there s number buffer ty index e h k = rw e (rw h (rw k refl))
 
-pub swizzled-alike : (letters : List ℕ) (standing : Standing) (code : Code) → Agrees standing code → IsAlike standing (swizzled letters standing)
-swizzled-alike letters (a_place w a before) code h = tt
-swizzled-alike letters no_place code h = tt
-swizzled-alike letters unclear code h = absurd h
+element-known : (buffer : BufferInfo) (ty : Ty) → buffer.raw ≡ false → buffer.element ≡ Some ty → value (Some ty) (a_place buffer.writable buffer.writable []) ≡ element_value buffer
+element-known buffer ty e h = rw e (ap (λ o. value o (a_place buffer.writable buffer.writable [])) (sym h))
 
-pub indexed-alike : (number : Option ℕ) (standing : Standing) (code : Code) → Agrees standing code → IsAlike standing (indexed number standing)
-indexed-alike None (a_place w a before) code h = tt
-indexed-alike (Some number) (a_place w a before) code h = tt
-indexed-alike None no_place code h = tt
-indexed-alike (Some number) no_place code h = tt
-indexed-alike None unclear code h = absurd h
-indexed-alike (Some number) unclear code h = absurd h
-
--- ---- members and swizzles
-
-swizzle-becomes : (at : ℕ) (kind : Kind) (letters : Option (List ℕ)) (standing : Standing) (code : Code) → is_none letters ≡ false → Agrees standing code → Becomes (swizzle_value kind letters standing) (swizzled_code at kind letters code)
-swizzle-becomes at kind None standing code e h = absurd (cc e)
-swizzle-becomes at kind (Some letters) standing code e h =
-    part-becomes at (swizzle_part letters) (components_type kind (length letters)) standing (swizzled letters standing) code h (swizzled-alike letters standing code h)
-
-member-becomes : (at : ℕ) (number : Option ℕ) (ty : Option Ty) (standing : Standing) (code : Code) → is_none number ≡ false → ((member : ℕ) → number ≡ Some member → (own : Ty) × (ty ≡ Some own)) → Agrees standing code → Becomes (value ty (stepped standing)) (member_code at number ty code)
-member-becomes at None ty standing code e known h = absurd (cc e)
-member-becomes at (Some member) ty standing code e known h =
-    subst (λ o. Becomes (value o (stepped standing)) (member_code at (Some member) o code)) (sym (known member refl).1)
-    (part-becomes at (member_part member) (known member refl).0 standing (stepped standing) code h (stepped-alike standing code h))
-
--- `.` and a name behind something of a type
-pub dotted-becomes : (s : Scope) → IsKnown s → (at : ℕ) (name : List ℕ) (ty : Ty) (standing : Standing) (code : Code) → is_void ty ≡ false → is_no_member s name (Some ty) ≡ false → is_no_swizzle name (Some ty) ≡ false → Agrees standing code → Becomes (dotted_value s name (Some ty) standing) (dotted_into s at name ty code)
-dotted-becomes s known at name (struct_type number) standing code e h k l =
-    member-becomes at (member_number (members_of s number) name) (member_type s number name) standing code h (λ member m. known.members number member name m) l
-dotted-becomes s known at name (scalar_type kind) standing code e h k l = swizzle-becomes at kind (letters_within 1 name) standing code k l
-dotted-becomes s known at name (vector_type kind size) standing code e h k l = swizzle-becomes at kind (letters_within size name) standing code k l
-dotted-becomes s known at name (array_type element size) standing code e h k l = absurd (cc h)
-dotted-becomes s known at name void_type standing code e h k l = absurd (cc e)
-
--- ---- indexes
-
-abbrev pub is_indexed : Ty → Bool
-is_indexed (array_type element size) = true
-is_indexed (vector_type kind size) = true
-is_indexed _ = false
-
--- an index behind an array or a vector
-pub indexed-becomes : (at : ℕ) (number : Option ℕ) (index : Expr) (ty : Ty) (standing : Standing) (code : Code) → is_indexed ty ≡ true → Agrees standing code → Becomes (indexed_value number (Some ty) standing) (indexed_into at index ty code)
-indexed-becomes at number index (array_type element size) standing code e h =
-    part-becomes at (index_part index) element standing (indexed number standing) code h (indexed-alike number standing code h)
-indexed-becomes at number index (vector_type kind size) standing code e h =
-    part-becomes at (index_part index) (scalar_type kind) standing (indexed number standing) code h (indexed-alike number standing code h)
-indexed-becomes at number index (scalar_type kind) standing code e h = absurd (cc e)
-indexed-becomes at number index (struct_type n) standing code e h = absurd (cc e)
-indexed-becomes at number index void_type standing code e h = absurd (cc e)
+-- an element of a structured buffer becomes a place
+pub element-becomes : (s : Scope) (at number : ℕ) (buffer : BufferInfo) (ty : Ty) (index : Expr) → slice_get s.buffers number ≡ Some buffer → buffer.raw ≡ false → buffer.element ≡ Some ty → IsValueIn s index → type_of index ≡ uint_type → Becomes s (element_value buffer) (option_map (a_place_code at) (element_place s number index))
+element-becomes s at number buffer ty index there e h stands l =
+    subst (λ v. Becomes s v (option_map (a_place_code at) (element_place s number index))) (element-known buffer ty e h) (record {
+      to = a_place_code at (a_location ty (element_root number index) no_parts);
+      is = ap (λ o. option_map (a_place_code at) o) (element-there s number buffer ty index there e h);
+      type = refl;
+      agrees = tt;
+      fits = λ env f. element-stands env number buffer ty index (f.buffers number buffer there) e h (stands env f) l;
+    })

@@ -25,12 +25,7 @@ use Rattle.hl_rules.specs.Parts.{Part, a_brace_init, a_constant_init, a_declared
 use Rattle.hl_rules.specs.Scopes.{ParamInfo, Scope, Sort, a_function_name, a_struct_name, a_variable_name, declared_in, innermost, is_function, sort_at, spelled, words_if}
 use Rattle.hl_rules.specs.Sites.{is_entry, is_numthreads}
 use Rattle.hl_rules.specs.Source.{terminal_at}
-use Rattle.hl_rules.specs.Values.{is_word, type_in}
-
--- whether a type is known and passes
-abbrev pub is_known : (Ty → Bool) → Option Ty → Bool
-is_known test None = false
-is_known test (Some ty) = test ty
+use Rattle.hl_rules.specs.Values.{is_known, is_word, type_in}
 
 -- ---- names
 

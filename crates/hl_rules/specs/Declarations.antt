@@ -24,15 +24,27 @@ variable root ty is_const number = a_variable_name (record { root = root; ty = t
 
 -- ---- local variables
 
+abbrev pub start_count : Tree → ℕ
+start_count (a_start at declarator init) = 1
+start_count _ = 0
+
+abbrev pub starts_count : Trees → ℕ
+starts_count no_trees = 0
+starts_count (more_trees first rest) = start_count first + starts_count rest
+
+-- how many variables the first part of a `for` declares
+abbrev pub locals_first : Maybe → ℕ
+locals_first (present (a_local at constant type starts)) = starts_count starts
+locals_first _ = 0
+
 -- how many variables a statement declares
 abbrev mutual
   pub locals_in : Tree → ℕ
   locals_in (a_stmt at part) = locals_if part
   locals_in (a_block at statements) = locals_among statements
-  locals_in (a_local at constant type starts) = locals_among starts
-  locals_in (a_start at declarator init) = 1
+  locals_in (a_local at constant type starts) = starts_count starts
   locals_in (an_if at attributes condition consequent alternative) = locals_in consequent + locals_if alternative
-  locals_in (a_for at attributes first condition step body) = locals_if first + locals_in body
+  locals_in (a_for at attributes first condition step body) = locals_first first + locals_in body
   locals_in (a_while at attributes condition body) = locals_in body
   locals_in (a_do at attributes body condition) = locals_in body
   locals_in _ = 0
@@ -59,20 +71,17 @@ abbrev pub after_starts : Option Ty → (is_const : Bool) → Scope → Trees �
 after_starts ty is_const s no_trees = s
 after_starts ty is_const s (more_trees first rest) = after_starts ty is_const (after_start ty is_const s first) rest
 
--- behind a tree of the production `local`; any other tree declares no name for what comes behind it
-abbrev pub after_local : Scope → Tree → Scope
-after_local s (a_local at constant type starts) = after_starts (named_type s type) (is_some constant) s starts
-after_local s statement = behind (locals_in statement) s
-
--- behind a statement
+-- behind a statement; one that isn't a `local` declares no name for what comes behind it
 abbrev pub after_statement : Scope → Tree → Scope
-after_statement s (a_stmt at (present part)) = after_local s part
-after_statement s statement = s
+after_statement s (a_stmt at absent) = s
+after_statement s (a_stmt at (present part)) = after_statement s part
+after_statement s (a_local at constant type starts) = after_starts (named_type s type) (is_some constant) s starts
+after_statement s statement = behind (locals_in statement) s
 
 -- in a `for`, which is a block of its own, behind its first part
 abbrev pub after_first : Scope → Maybe → Scope
-after_first s absent = opened s
-after_first s (present first) = after_local (opened s) first
+after_first s (present (a_local at constant type starts)) = after_starts (named_type (opened s) type) (is_some constant) (opened s) starts
+after_first s _ = opened s
 
 -- ---- parameters
 

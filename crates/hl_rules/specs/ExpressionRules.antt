@@ -3,23 +3,25 @@
 -- Each says at which tokens it is broken by a part of a program. A rule that needs the type of something that has none
 -- isn't broken there. Whether something is a place, may be written, or is shared by lanes (25, 31, 37 and 40) needs no
 -- type: the root and the form say it.
-use Rattle.std.specs.Prelude.{ℕ, ◌==◌, ◌&&◌, ◌||◌, not, Bool, true, false, if◌then◌else◌, nat_le, List, [], ◌∷◌, ◌++◌, map, sum, is_some, is_none, codes, Option, None, Some, option_and_then, bytes_eq}
+use Rattle.std.specs.Prelude.{ℕ, ◌==◌, ◌&&◌, ◌||◌, not, Bool, true, false, if◌then◌else◌, nat_le, List, [], ◌∷◌, ◌++◌, map, sum, is_some, is_none, codes, Option, None, Some, option_and_then, bytes_eq, Result, Err}
 use Rattle.std.specs.List.{list_any}
 use Rattle.hl_parser.specs.Trees.{Tree, Trees, no_trees, more_trees, an_args, at_of}
 use Rattle.hl_meaning.specs.declared.program.Copying.{Copying}
 use Rattle.hl_meaning.specs.declared.program.Copying.TheVariants.{CopyIn}
 use Rattle.hl_meaning.specs.Types.{Ty, array_type, component_count, is_scalar, is_void, scalar_type, struct_type, vector_type}
 use Rattle.hl_meaning.specs.Conversions.{converts}
+use Rattle.hl_overload.specs.declared.choice.ChoiceFault.{ChoiceFault}
+use Rattle.hl_overload.specs.declared.choice.ChoiceFault.TheVariants.{Ambiguous, NoMatch}
+use Rattle.hl_overload.specs.Choice.{Param}
 use Rattle.hl_rules.specs.Constants.{basic_type, constant_number, tree_count}
 use Rattle.hl_rules.specs.Declarations.{is_there}
-use Rattle.hl_rules.specs.DeclarationRules.{is_known}
 use Rattle.hl_rules.specs.Found.{broken_if}
-use Rattle.hl_rules.specs.Intrinsics.{interlocked_form, intrinsic_named, Method, method_of}
-use Rattle.hl_rules.specs.Overloads.{Choice, Passed, is_ambiguous, none_fits}
+use Rattle.hl_rules.specs.declared.interlocked.Method.{Method}
+use Rattle.hl_rules.specs.Intrinsics.{interlocked_form, intrinsic_named, method_of}
 use Rattle.hl_rules.specs.Parts.{Part, a_call, a_cast, a_condition, a_constructor, a_conversion, a_dot, a_function_attribute, a_loop_jump, a_method_call, a_return, a_statement_attribute, a_use, a_written_side, an_index, an_operand}
 use Rattle.hl_rules.specs.Scopes.{BufferInfo, Scope, Sort, a_function_name, sort_at, spelled}
 use Rattle.hl_rules.specs.Sites.{is_numthreads}
-use Rattle.hl_rules.specs.Values.{Candidate, Standing, Value, a_place, argument_types, arguments_of, buffer_at, call_choice, called, gives_nothing, intrinsic_type, is_longer, is_no_operand, is_word, letters_within, may_be_written, member_number, members_of, method_fits, no_place, standing_in, type_in, unclear, value_of, valued}
+use Rattle.hl_rules.specs.Values.{Candidate, Standing, Value, a_place, argument_types, arguments_of, buffer_at, call_choice, called, gives_nothing, intrinsic_type, is_known, is_longer, is_no_operand, is_word, letters_within, may_be_written, member_number, members_of, method_fits, no_place, standing_in, type_in, unclear, value_of, valued}
 
 -- ---- statements
 
@@ -187,8 +189,8 @@ rule_34 s _ = []
 
 -- ---- calls
 
-abbrev pub is_none_fitting : Option Choice → Bool
-is_none_fitting (Some none_fits) = true
+abbrev pub is_none_fitting : Option (Result ℕ ChoiceFault) → Bool
+is_none_fitting (Some (Err NoMatch)) = true
 is_none_fitting _ = false
 
 -- whether the arguments, which all have types, don't fit the intrinsic function
@@ -207,8 +209,8 @@ abbrev pub rule_35 : Scope → Part → List ℕ
 rule_35 s (a_call at arguments) = broken_if (is_unfit_call s (spelled s at) (sort_at s at) (arguments_of s arguments)) at
 rule_35 s _ = []
 
-abbrev pub is_ambiguous_choice : Option Choice → Bool
-is_ambiguous_choice (Some (is_ambiguous first second)) = true
+abbrev pub is_ambiguous_choice : Option (Result ℕ ChoiceFault) → Bool
+is_ambiguous_choice (Some (Err (Ambiguous first second))) = true
 is_ambiguous_choice _ = false
 
 -- 36. A call is ambiguous (HLSL, "Overload Resolution").
@@ -222,7 +224,7 @@ abbrev pub chosen_at : Scope → ℕ → Tree → Option Candidate
 chosen_at s at arguments = if is_function_call (sort_at s at) then called s (spelled s at) (arguments_of s arguments) else None
 
 -- the arguments that are written and can't be
-abbrev pub unwritable_arguments : Scope → List Passed → Trees → List ℕ
+abbrev pub unwritable_arguments : Scope → List Param → Trees → List ℕ
 unwritable_arguments s [] trees = []
 unwritable_arguments s (p ∷ params) no_trees = []
 unwritable_arguments s (p ∷ params) (more_trees first rest) = argument_if p.copying ++ unwritable_arguments s params rest

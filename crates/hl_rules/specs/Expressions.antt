@@ -11,11 +11,14 @@ use Rattle.hl_meaning.specs.declared.program.Copying.TheVariants.{CopyIn}
 use Rattle.hl_meaning.specs.Types.{Ty, array_type, bool_type, components_type, scalar_type, struct_type, uint_type, vector_type, void_type, with_kind}
 use Rattle.hl_meaning.specs.Trees.{Arg, Args, Expr, Location, a_location, an_expr, binary_form, build_form, bytes_target, call_form, choose_form, element_root, index_part, intrinsic_form, literal_form, member_part, method_form, more_args, no_args, no_expr, no_parts, place_arg, place_target, place_type, read_form, some_expr, swizzle_part, unary_form, value_arg, write_form}
 use Rattle.hl_meaning.specs.Intrinsics.{signature_of}
+use Rattle.hl_overload.specs.Choice.{Param}
 use Rattle.hl_rules.specs.Constants.{basic_type, constant_number}
-use Rattle.hl_rules.specs.Intrinsics.{InterlockedForm, Method, does_atomic, interlocked_form, intrinsic_named, loads_element, loads_words, method_of, operands_of, passed, stores_words}
+use Rattle.hl_rules.specs.declared.interlocked.Interlocked.{Interlocked}
+use Rattle.hl_rules.specs.declared.interlocked.Method.{Method}
+use Rattle.hl_rules.specs.declared.interlocked.Method.TheVariants.{DoesAtomic, LoadsElement, LoadsWords, StoresWords}
+use Rattle.hl_rules.specs.Intrinsics.{interlocked_form, intrinsic_named, method_of, operands_of, passed}
 use Rattle.hl_rules.specs.Nodes.{Code, a_place_code, a_value, a_value_code, bytes_operand, converted_code, converted_each, in_kind, interlocked, place_of_code, type_of_code, value_of_code, with_part}
 use Rattle.hl_rules.specs.Operands.{choice_type, kind_of, operand_type, operator_type, negated_type, signed_type}
-use Rattle.hl_rules.specs.Overloads.{Passed}
 use Rattle.hl_rules.specs.Scopes.{BufferInfo, Scope, Sort, a_function_name, a_variable_name, sort_at, spelled}
 use Rattle.hl_rules.specs.Sites.{compound_production}
 use Rattle.hl_rules.specs.Source.{mark_at, number_at, terminal_at}
@@ -61,10 +64,15 @@ abbrev pub bare_at : Tree → ℕ
 bare_at (a_primary at (present inner) absent) = bare_at inner
 bare_at e = at_of e
 
+-- What isn't a constant number is no literal: a number in a cast to its own type, which is that number, stands behind a `+`.
+abbrev pub no_literal : Expr → Expr
+no_literal (an_expr ty at (literal_form word)) = an_expr ty at (unary_form 12 (an_expr ty at (literal_form word)))
+no_literal e = e
+
 -- An index: a constant number is a literal of uint, and any other index is converted to uint.
 abbrev pub index_expr : (at : ℕ) → (number : Option ℕ) → Code → Option Expr
 index_expr at (Some number) code = Some (an_expr uint_type at (literal_form number))
-index_expr at None code = converted_code uint_type code
+index_expr at None code = option_map no_literal (converted_code uint_type code)
 
 -- what an index gives behind something of a type, an array or a vector
 abbrev pub indexed_into : (at : ℕ) → Expr → Ty → Code → Option Code
@@ -78,10 +86,12 @@ indexed_code at index code = indexed_into at index (type_of_code code) code
 abbrev pub element_if : BufferInfo → Option Ty
 element_if buffer = if buffer.raw then None else buffer.element
 
--- an element of a structured buffer, as a place
+-- an element of a structured buffer of a number, as a place
+abbrev pub element_in : BufferInfo → (number : ℕ) → Expr → Option Location
+element_in buffer number index = option_map (λ ty. a_location ty (element_root number index) no_parts) (element_if buffer)
+
 abbrev pub element_place : Scope → (number : ℕ) → Expr → Option Location
-element_place s number index =
-    option_and_then (λ buffer. option_map (λ ty. a_location ty (element_root number index) no_parts) (element_if buffer)) (slice_get s.buffers number)
+element_place s number index = option_and_then (λ buffer. element_in buffer number index) (slice_get s.buffers number)
 
 -- an index behind an expression, which may be the name of a buffer
 abbrev pub bracketed_code : Scope → (at : ℕ) → (buffer : Option ℕ) → Expr → Option Code → Option Code
@@ -175,7 +185,7 @@ abbrev pub passed_arg : Copying → Ty → Code → Option Arg
 passed_arg CopyIn ty code = option_map value_arg (converted_code ty code)
 passed_arg _ ty code = option_map place_arg (place_of_code code)
 
-abbrev pub passed_args : List Passed → List Code → Option Args
+abbrev pub passed_args : List Param → List Code → Option Args
 passed_args [] [] = Some no_args
 passed_args (p ∷ params) (code ∷ codes) =
     option_and_then (λ first. option_map (λ rest. more_args first rest) (passed_args params codes)) (passed_arg p.copying p.ty code)
@@ -188,13 +198,13 @@ function_code s at candidate codes =
     (function_result s candidate.number)
 
 -- an interlocked operation on a place
-abbrev pub interlocked_code : (at : ℕ) → InterlockedForm → List Code → Option Code
+abbrev pub interlocked_code : (at : ℕ) → Interlocked → List Code → Option Code
 interlocked_code at form [] = None
 interlocked_code at form (target ∷ codes) =
     option_and_then (λ o. option_and_then (λ place. interlocked at (place_target place) (place_type place) form o) (place_of_code target)) (operands_of form codes)
 
 -- an interlocked operation, or else another intrinsic function, whose arguments are converted to what it takes
-abbrev pub code_by_form : Option InterlockedForm → (at number : ℕ) → List Code → Option Code
+abbrev pub code_by_form : Option Interlocked → (at number : ℕ) → List Code → Option Code
 code_by_form (Some form) at number codes = interlocked_code at form codes
 code_by_form None at number codes =
     option_and_then (λ p. option_and_then (λ args. a_value p.gives at (intrinsic_form number args)) (converted_each p.takes codes))
@@ -222,24 +232,25 @@ trees_of_args (an_args at arguments) = arguments
 trees_of_args _ = no_trees
 
 -- A method of a byte-address buffer takes an address, which is converted to uint. A structured buffer's `Load` reads an
--- element, by an index; what it gives is no place.
-abbrev pub method_code : Scope → (at number : ℕ) → Method → Trees → List Code → Option Code
-method_code s at number (loads_words count) trees (address ∷ []) =
+-- element, by an index; what it gives is no place. The first token of the first argument is that of an index, and the
+-- constant number too.
+abbrev pub method_code : BufferInfo → (at number : ℕ) → Method → (first : ℕ) → (constant : Option ℕ) → List Code → Option Code
+method_code buffer at number (LoadsWords count) first constant (address ∷ []) =
     option_and_then (λ a. a_value (components_type UintKind count) at (method_form number count a no_expr)) (converted_code uint_type address)
-method_code s at number (stores_words count) trees (address ∷ value ∷ []) =
+method_code buffer at number (StoresWords count) first constant (address ∷ value ∷ []) =
     option_and_then (λ a. option_and_then (λ v. a_value void_type at (method_form number count a (some_expr v))) (converted_code (components_type UintKind count) value))
     (converted_code uint_type address)
-method_code s at number (does_atomic form) trees (address ∷ codes) =
+method_code buffer at number (DoesAtomic form) first constant (address ∷ codes) =
     option_and_then (λ o. option_and_then (λ a. interlocked at (bytes_target number a) (bytes_operand (type_of_code o.value)) form o) (converted_code uint_type address))
     (operands_of form codes)
-method_code s at number loads_element trees (index ∷ []) =
-    option_and_then (λ i. option_and_then (λ place. a_value (place_type place) at (read_form place)) (element_place s number i))
-    (index_expr (first_at trees) (first_number s trees) index)
-method_code s at number _ trees _ = None
+method_code buffer at number LoadsElement first constant (index ∷ []) =
+    option_and_then (λ i. option_and_then (λ place. a_value (place_type place) at (read_form place)) (element_in buffer number i))
+    (index_expr first constant index)
+method_code buffer at number _ first constant _ = None
 
 abbrev pub method_call_code : Scope → (at : ℕ) → (buffer : Option ℕ) → (name : List ℕ) → Trees → List Code → Option Code
 method_call_code s at buffer name trees codes =
-    option_and_then (λ number. option_and_then (λ info. option_and_then (λ method. method_code s at number method trees codes) (method_of info name)) (slice_get s.buffers number)) buffer
+    option_and_then (λ number. option_and_then (λ info. option_and_then (λ method. method_code info at number method (first_at trees) (first_number s trees) codes) (method_of info name)) (slice_get s.buffers number)) buffer
 
 -- ---- expressions
 

@@ -7,6 +7,11 @@ use Rattle.hl_meaning.specs.declared.intrinsic.Signature.{Signature}
 use Rattle.hl_meaning.specs.declared.intrinsic.Signature.TheVariants.{Numbers, Uints, Truths, Bits, Barrier, LaneTruth, LaneNumber, Vote, Ballot, AllEqual, ReadLaneAt, ReadLaneFirst, CountTruths}
 use Rattle.hl_meaning.specs.Types.{Ty, bool_type, is_basic, is_numeric, is_scalar, uint_type, vector_type, void_type, with_kind}
 use Rattle.hl_meaning.specs.Intrinsics.{intrinsics}
+use Rattle.hl_rules.specs.declared.interlocked.Interlocked.{Interlocked}
+use Rattle.hl_rules.specs.declared.interlocked.Method.{Method}
+use Rattle.hl_rules.specs.declared.interlocked.Method.TheVariants.{DoesAtomic, LoadsElement, LoadsWords, StoresWords}
+use Rattle.hl_rules.specs.declared.interlocked.Presence.{Presence}
+use Rattle.hl_rules.specs.declared.interlocked.Presence.TheVariants.{Always, Never, Perhaps}
 use Rattle.hl_rules.specs.Operands.{common_of}
 use Rattle.hl_rules.specs.Scopes.{BufferInfo}
 
@@ -47,41 +52,27 @@ passed _ _ = None
 
 -- ---- interlocked operations
 
--- whether an operation has an argument for the original value
-pub data Presence : Type 0 where
-  never_there : Presence
-  perhaps_there : Presence
-  always_there : Presence
-
--- an interlocked operation: whether it compares, whether it has an original, and its kind for an int and for a uint. A
--- compare exchange has none
-pub record InterlockedForm : Type 0 where
-  pub compares : Bool
-  pub original : Presence
-  pub signed : Option AtomicKind
-  pub unsigned : Option AtomicKind
-
-abbrev pub atomic : Bool → Presence → Option AtomicKind → Option AtomicKind → InterlockedForm
+abbrev pub atomic : Bool → Presence → Option AtomicKind → Option AtomicKind → Interlocked
 atomic compares original signed unsigned = record { compares = compares; original = original; signed = signed; unsigned = unsigned }
 
 -- the interlocked operations, whose first one is the intrinsic function 11
-abbrev pub interlocked_forms : List InterlockedForm
+abbrev pub interlocked_forms : List Interlocked
 interlocked_forms =
-    atomic false perhaps_there (Some Add) (Some Add) ∷
-    atomic false perhaps_there (Some And) (Some And) ∷
-    atomic false perhaps_there (Some Or) (Some Or) ∷
-    atomic false perhaps_there (Some Xor) (Some Xor) ∷
-    atomic false perhaps_there (Some IMin) (Some UMin) ∷
-    atomic false perhaps_there (Some IMax) (Some UMax) ∷
-    atomic false always_there (Some Exchange) (Some Exchange) ∷
-    atomic true always_there None None ∷
-    atomic true never_there None None ∷ []
+    atomic false Perhaps (Some Add) (Some Add) ∷
+    atomic false Perhaps (Some And) (Some And) ∷
+    atomic false Perhaps (Some Or) (Some Or) ∷
+    atomic false Perhaps (Some Xor) (Some Xor) ∷
+    atomic false Perhaps (Some IMin) (Some UMin) ∷
+    atomic false Perhaps (Some IMax) (Some UMax) ∷
+    atomic false Always (Some Exchange) (Some Exchange) ∷
+    atomic true Always None None ∷
+    atomic true Never None None ∷ []
 
 abbrev pub first_atomic : ℕ
 first_atomic = 11
 
 -- the interlocked operation of an intrinsic function's number
-abbrev pub interlocked_form : ℕ → Option InterlockedForm
+abbrev pub interlocked_form : ℕ → Option Interlocked
 interlocked_form number = if nat_le first_atomic number then slice_get interlocked_forms (number - first_atomic) else None
 
 -- what stands behind the target or the address
@@ -94,33 +85,29 @@ abbrev pub operands : {A : Type 0} → Option A → A → Option A → Option (O
 operands compare value original = Some (record { compare = compare; value = value; original = original })
 
 abbrev pub may_be_absent : Presence → Bool
-may_be_absent always_there = false
+may_be_absent Always = false
 may_be_absent _ = true
 
 abbrev pub may_be_present : Presence → Bool
-may_be_present never_there = false
+may_be_present Never = false
 may_be_present _ = true
 
+-- a value, and an original that may or must be there
+abbrev pub operands_behind : {A : Type 0} → (compare : Option A) → Presence → List A → Option (Operands A)
+operands_behind compare presence (value ∷ []) = if may_be_absent presence then operands compare value None else None
+operands_behind compare presence (value ∷ original ∷ []) = if may_be_present presence then operands compare value (Some original) else None
+operands_behind compare presence _ = None
+
+-- the same behind what is compared
+abbrev pub operands_compared : {A : Type 0} → Presence → List A → Option (Operands A)
+operands_compared presence [] = None
+operands_compared presence (compare ∷ args) = operands_behind (Some compare) presence args
+
 -- the operands of an interlocked operation, in the order compare, value, original, where their number is right
-abbrev pub operands_of : {A : Type 0} → InterlockedForm → List A → Option (Operands A)
-operands_of {A} form args = split form.compares args
-  where
-    split : Bool → List A → Option (Operands A)
-    split false (value ∷ []) = if may_be_absent form.original then operands None value None else None
-    split false (value ∷ original ∷ []) = if may_be_present form.original then operands None value (Some original) else None
-    split true (compare ∷ value ∷ []) = if may_be_absent form.original then operands (Some compare) value None else None
-    split true (compare ∷ value ∷ original ∷ []) = if may_be_present form.original then operands (Some compare) value (Some original) else None
-    split _ _ = None
+abbrev pub operands_of : {A : Type 0} → Interlocked → List A → Option (Operands A)
+operands_of form args = if form.compares then operands_compared form.original args else operands_behind None form.original args
 
 -- ---- methods
-
--- what a method of a buffer does: it loads or stores so many words at an address, does an interlocked operation there,
--- or loads an element
-pub data Method : Type 0 where
-  loads_words : (count : ℕ) → Method
-  stores_words : (count : ℕ) → Method
-  does_atomic : (form : InterlockedForm) → Method
-  loads_element : Method
 
 pub record MethodRow : Type 0 where
   pub name : List ℕ
@@ -132,28 +119,28 @@ method_row name method = record { name = name; method = method }
 -- the methods of byte-address buffers that read
 abbrev pub reading_methods : List MethodRow
 reading_methods =
-    method_row (codes "Load") (loads_words 1) ∷
-    method_row (codes "Load2") (loads_words 2) ∷
-    method_row (codes "Load3") (loads_words 3) ∷
-    method_row (codes "Load4") (loads_words 4) ∷ []
+    method_row (codes "Load") (LoadsWords 1) ∷
+    method_row (codes "Load2") (LoadsWords 2) ∷
+    method_row (codes "Load3") (LoadsWords 3) ∷
+    method_row (codes "Load4") (LoadsWords 4) ∷ []
 
 -- and those of writable ones that write
 abbrev pub storing_methods : List MethodRow
 storing_methods =
-    method_row (codes "Store") (stores_words 1) ∷
-    method_row (codes "Store2") (stores_words 2) ∷
-    method_row (codes "Store3") (stores_words 3) ∷
-    method_row (codes "Store4") (stores_words 4) ∷ []
+    method_row (codes "Store") (StoresWords 1) ∷
+    method_row (codes "Store2") (StoresWords 2) ∷
+    method_row (codes "Store3") (StoresWords 3) ∷
+    method_row (codes "Store4") (StoresWords 4) ∷ []
 
 -- the methods of structured buffers
 abbrev pub element_methods : List MethodRow
-element_methods = method_row (codes "Load") loads_element ∷ []
+element_methods = method_row (codes "Load") LoadsElement ∷ []
 
 abbrev pub method_among : List ℕ → List MethodRow → Option Method
 method_among name rows = option_map (λ r. r.method) (find (λ r. bytes_eq r.name name) rows)
 
 -- the interlocked methods have the names of the intrinsic functions
-abbrev pub atomic_named : List ℕ → Option InterlockedForm
+abbrev pub atomic_named : List ℕ → Option Interlocked
 atomic_named name = option_and_then interlocked_form (intrinsic_named name)
 
 -- the first of two that is there
@@ -166,4 +153,4 @@ abbrev pub method_of : BufferInfo → List ℕ → Option Method
 method_of buffer name =
     if not buffer.raw then method_among name element_methods else (
     if not buffer.writable then method_among name reading_methods else
-    or_else (method_among name reading_methods) (or_else (method_among name storing_methods) (option_map does_atomic (atomic_named name))))
+    or_else (method_among name reading_methods) (or_else (method_among name storing_methods) (option_map DoesAtomic (atomic_named name))))

@@ -9,7 +9,6 @@ pub mod Intrinsics
 pub mod Laws
 pub mod Nodes
 pub mod Operands
-pub mod Overloads
 pub mod Parts
 pub mod Rules
 pub mod Scopes

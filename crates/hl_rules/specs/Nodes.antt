@@ -6,7 +6,8 @@ use Rattle.hl_meaning.specs.declared.ty.Kind.TheVariants.{Int as IntKind}
 use Rattle.hl_meaning.specs.Types.{Ty, is_of, scalar_type, ty_eq, uint_type, void_type, with_kind}
 use Rattle.hl_meaning.specs.Conversions.{converts}
 use Rattle.hl_meaning.specs.Trees.{Expr, Exprs, Form, Location, MaybeExpr, MaybeLocation, PathPart, PathParts, Target, a_location, an_expr, atomic_form, convert_form, index_part, literal_form, more_exprs, more_parts, no_expr, no_exprs, no_location, no_parts, pick_form, place_type, read_form, some_expr, some_location, swizzle_part, type_of}
-use Rattle.hl_rules.specs.Intrinsics.{InterlockedForm, Operands}
+use Rattle.hl_rules.specs.declared.interlocked.Interlocked.{Interlocked}
+use Rattle.hl_rules.specs.Intrinsics.{Operands}
 use Rattle.hl_rules.specs.Values.{is_longer, merged_letters}
 
 -- What an expression becomes: a place, with the index of its first token, or a value. A place that is used as a value is
@@ -95,11 +96,11 @@ perhaps f None = Some None
 perhaps f (Some x) = option_map (λ y. Some y) (f x)
 
 -- the kind of an interlocked operation on an int or a uint
-abbrev pub kind_for : InterlockedForm → Ty → Option AtomicKind
+abbrev pub kind_for : Interlocked → Ty → Option AtomicKind
 kind_for form ty = if is_of IntKind ty then form.signed else form.unsigned
 
 -- an interlocked operation on a target of a type: its operands are converted to it, and its original is a place
-abbrev pub interlocked : (at : ℕ) → Target → Ty → InterlockedForm → Operands Code → Option Code
+abbrev pub interlocked : (at : ℕ) → Target → Ty → Interlocked → Operands Code → Option Code
 interlocked at target ty form o =
     option_and_then (λ compare. option_and_then (λ value. option_and_then (λ original.
     a_value void_type at (atomic_form target (kind_for form ty) (expr_if compare) value (location_if original)))

@@ -1,7 +1,9 @@
 -- What is known at a place of a program, and by which names (HLSL, "Names", "Scopes").
 --
 -- All names share one name space. A local name hides a global one, and a name of an inner block one of an outer block.
-use Rattle.std.specs.Prelude.{ℕ, ◌+◌, ◌*◌, ◌||◌, Bool, true, false, List, [], ◌∷◌, ◌++◌, length, find, Option, None, Some, option_map, option_and_then, slice_get, bytes_eq}
+use Rattle.std.specs.Prelude.{ℕ, ◌+◌, ◌*◌, Bool, true, false, List, [], ◌∷◌, ◌++◌, length, find, Option, None, Some, option_map, option_and_then, slice_get, bytes_eq}
+use Rattle.std.specs.List.{list_any}
+use Rattle.std.specs.Option.{option_or}
 use Rattle.hl_lexer.specs.Tokens.{Lexeme}
 use Rattle.hl_meaning.specs.declared.program.Copying.{Copying}
 use Rattle.hl_meaning.specs.Types.{Ty, array_type, scalar_type, struct_type, vector_type, void_type}
@@ -109,11 +111,7 @@ declared_in names name = option_map (λ n. n.sort) (find (λ n. bytes_eq n.name 
 -- the name's declaration in the innermost of the blocks that has one, or else the other one
 abbrev pub declared_among : List (List Named) → List ℕ → Option Sort → Option Sort
 declared_among [] name other = other
-declared_among (block ∷ blocks) name other = first_found (declared_in block name) (declared_among blocks name other)
-  where
-    first_found : Option Sort → Option Sort → Option Sort
-    first_found None rest = rest
-    first_found (Some sort) rest = Some sort
+declared_among (block ∷ blocks) name other = option_or (declared_in block name) (declared_among blocks name other)
 
 -- what a name stands for
 abbrev pub sort_of : Scope → List ℕ → Option Sort
@@ -180,8 +178,4 @@ members_words structs (m ∷ members) =
 
 -- whether a function of this name is declared so far
 abbrev pub is_function : Scope → List ℕ → Bool
-is_function s name = is_named s.functions
-  where
-    is_named : List FunctionInfo → Bool
-    is_named [] = false
-    is_named (f ∷ functions) = bytes_eq f.name name || is_named functions
+is_function s name = list_any (λ f. bytes_eq f.name name) s.functions

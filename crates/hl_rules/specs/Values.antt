@@ -1,5 +1,5 @@
 -- What is known of an expression: its type, and whether it is a place (HLSL, "Expressions").
-use Rattle.std.specs.Prelude.{ℕ, suc, ◌==◌, ◌&&◌, ◌||◌, not, Bool, true, false, if◌then◌else◌, nat_le, nat_lt, List, [], ◌∷◌, length, map, find, position, Option, None, Some, option_map, option_and_then, slice_get, slice_index_or, bytes_eq, codes}
+use Rattle.std.specs.Prelude.{ℕ, suc, ◌==◌, ◌&&◌, ◌||◌, not, Bool, true, false, if◌then◌else◌, nat_le, nat_lt, List, [], ◌∷◌, length, map, find, position, Option, None, Some, option_map, option_and_then, slice_get, slice_index_or, bytes_eq, codes, Result, Ok, Err}
 use Rattle.std.specs.List.{list_all}
 use Rattle.hl_lexer.specs.declared.terminal.Terminal.{Terminal}
 use Rattle.hl_lexer.specs.declared.terminal.Terminal.TheVariants as terminals
@@ -11,10 +11,15 @@ use Rattle.hl_meaning.specs.Conversions.{converts}
 use Rattle.hl_meaning.specs.Trees.{Root, shared_root}
 use Rattle.hl_meaning.specs.Intrinsics.{signature_of}
 use Rattle.hl_meaning.specs.Places.{is_without_repeats}
+use Rattle.hl_overload.specs.declared.choice.ChoiceFault.{ChoiceFault}
+use Rattle.hl_overload.specs.Best.{choice_of}
+use Rattle.hl_overload.specs.Choice.{Param}
 use Rattle.hl_rules.specs.Constants.{basic_type, constant_number}
-use Rattle.hl_rules.specs.Intrinsics.{InterlockedForm, Method, Operands, interlocked_form, does_atomic, intrinsic_named, loads_element, loads_words, method_of, operands_of, passed, stores_words}
+use Rattle.hl_rules.specs.declared.interlocked.Interlocked.{Interlocked}
+use Rattle.hl_rules.specs.declared.interlocked.Method.{Method}
+use Rattle.hl_rules.specs.declared.interlocked.Method.TheVariants.{DoesAtomic, LoadsElement, LoadsWords, StoresWords}
+use Rattle.hl_rules.specs.Intrinsics.{Operands, interlocked_form, intrinsic_named, method_of, operands_of, passed}
 use Rattle.hl_rules.specs.Operands.{choice_type, negated_type, of_three, of_two, operator_type, signed_type}
-use Rattle.hl_rules.specs.Overloads.{Choice, Passed, choice_of, is_chosen}
 use Rattle.hl_rules.specs.Scopes.{BufferInfo, FunctionInfo, MemberInfo, ParamInfo, Scope, Sort, StructInfo, a_buffer_name, a_function_name, a_variable_name, sort_at, spelled}
 use Rattle.hl_rules.specs.Source.{is_unsigned_at, number_at, terminal_at}
 
@@ -214,7 +219,7 @@ may_be_written (a_place writable atomic letters) = writable && is_without_repeat
 may_be_written _ = false
 
 -- parameters, where all have types
-abbrev pub params_known : List ParamInfo → Option (List Passed)
+abbrev pub params_known : List ParamInfo → Option (List Param)
 params_known [] = Some []
 params_known (p ∷ params) =
     option_and_then (λ ty. option_map (λ more. record { ty = ty; copying = p.copying } ∷ more) (params_known params)) p.ty
@@ -222,7 +227,7 @@ params_known (p ∷ params) =
 -- a function that may be called: its number and its parameters
 pub record Candidate : Type 0 where
   pub number : ℕ
-  pub params : List Passed
+  pub params : List Param
 
 -- the functions of a name among those from a number on, where all of them have parameters with types
 abbrev pub candidates_from : ℕ → List ℕ → List FunctionInfo → Option (List Candidate)
@@ -236,13 +241,13 @@ abbrev pub candidates : Scope → List ℕ → Option (List Candidate)
 candidates s name = candidates_from 0 name s.functions
 
 -- what the call of a function chooses, where the types of all arguments and parameters are known
-abbrev pub call_choice : Scope → List ℕ → List Value → Option Choice
+abbrev pub call_choice : Scope → List ℕ → List Value → Option (Result ℕ ChoiceFault)
 call_choice s name args =
     option_and_then (λ types. option_map (λ found. choice_of (map (λ c. c.params) found) types) (candidates s name)) (argument_types args)
 
-abbrev pub chosen_candidate : Scope → List ℕ → Choice → Option Candidate
-chosen_candidate s name (is_chosen place) = option_and_then (λ found. slice_get found place) (candidates s name)
-chosen_candidate s name _ = None
+abbrev pub chosen_candidate : Scope → List ℕ → Result ℕ ChoiceFault → Option Candidate
+chosen_candidate s name (Ok place) = option_and_then (λ found. slice_get found place) (candidates s name)
+chosen_candidate s name (Err fault) = None
 
 -- the candidate that is called, where one is
 abbrev pub called : Scope → List ℕ → List Value → Option Candidate
@@ -255,20 +260,17 @@ function_result s number = option_and_then (λ f. f.result) (slice_get s.functio
 abbrev pub is_word : Ty → Bool
 is_word ty = is_scalar ty && is_numeric ty
 
+-- whether a type is known and passes
+abbrev pub is_known : (Ty → Bool) → Option Ty → Bool
+is_known test None = false
+is_known test (Some ty) = test ty
+
 abbrev pub is_basic_value : Value → Bool
-is_basic_value v = is_basic_if v.ty
-  where
-    is_basic_if : Option Ty → Bool
-    is_basic_if None = false
-    is_basic_if (Some ty) = is_basic ty
+is_basic_value v = is_known is_basic v.ty
 
 -- whether a value has a type that converts to another one
 abbrev pub converts_to : Ty → Value → Bool
-converts_to ty v = converts_if v.ty
-  where
-    converts_if : Option Ty → Bool
-    converts_if None = false
-    converts_if (Some from) = converts from ty
+converts_to ty v = is_known (λ from. converts from ty) v.ty
 
 abbrev pub holds_if : {A : Type 0} → (A → Bool) → Option A → Bool
 holds_if test None = true
@@ -276,11 +278,7 @@ holds_if test (Some x) = test x
 
 -- a place that may be written, of a type that passes
 abbrev pub is_written_place : (Ty → Bool) → Value → Bool
-is_written_place test v = may_be_written v.standing && is_of_type v.ty
-  where
-    is_of_type : Option Ty → Bool
-    is_of_type None = false
-    is_of_type (Some ty) = test ty
+is_written_place test v = may_be_written v.standing && is_known test v.ty
 
 -- whether the operands of an interlocked operation fit, with what the original must be
 abbrev pub operands_fit : (Ty → Bool) → Operands Value → Bool
@@ -293,12 +291,12 @@ target_operands_fit target None = false
 target_operands_fit None (Some o) = true
 target_operands_fit (Some ty) (Some o) = if is_word ty then operands_fit (ty_eq ty) o else true
 
-abbrev pub atomic_fits : InterlockedForm → List Value → Bool
+abbrev pub atomic_fits : Interlocked → List Value → Bool
 atomic_fits form [] = false
 atomic_fits form (target ∷ values) = target_operands_fit target.ty (operands_of form values)
 
 -- what an interlocked operation gives, or else another intrinsic function
-abbrev pub result_by_form : Option InterlockedForm → (number : ℕ) → List Value → List Ty → Option Ty
+abbrev pub result_by_form : Option Interlocked → (number : ℕ) → List Value → List Ty → Option Ty
 result_by_form (Some form) number args types = if atomic_fits form args then Some void_type else None
 result_by_form None number args types = option_map (λ p. p.gives) (option_and_then (λ signature. passed signature types) (signature_of number))
 
@@ -323,20 +321,20 @@ atomic_operands_fit (Some o) = operands_fit is_word o
 -- Whether the arguments of a method fit; they all have types. An address and an index convert to uint, and what is
 -- stored to as many words as are stored.
 abbrev pub method_fits : Method → List Value → Bool
-method_fits (loads_words count) (address ∷ []) = converts_to uint_type address
-method_fits (stores_words count) (address ∷ v ∷ []) =
+method_fits (LoadsWords count) (address ∷ []) = converts_to uint_type address
+method_fits (StoresWords count) (address ∷ v ∷ []) =
     converts_to uint_type address && converts_to (components_type UintKind count) v
-method_fits loads_element (index ∷ []) = converts_to uint_type index
-method_fits (does_atomic form) (address ∷ values) =
+method_fits LoadsElement (index ∷ []) = converts_to uint_type index
+method_fits (DoesAtomic form) (address ∷ values) =
     converts_to uint_type address && atomic_operands_fit (operands_of form values)
 method_fits _ _ = false
 
 -- what a method gives
 abbrev pub method_gives : BufferInfo → Method → Option Ty
-method_gives buffer (loads_words count) = Some (components_type UintKind count)
-method_gives buffer (stores_words count) = Some void_type
-method_gives buffer loads_element = buffer.element
-method_gives buffer (does_atomic form) = Some void_type
+method_gives buffer (LoadsWords count) = Some (components_type UintKind count)
+method_gives buffer (StoresWords count) = Some void_type
+method_gives buffer LoadsElement = buffer.element
+method_gives buffer (DoesAtomic form) = Some void_type
 
 -- what a call of a method gives, where its arguments have types and fit
 abbrev pub method_type : BufferInfo → List ℕ → List Value → Option Ty

@@ -2,6 +2,8 @@
 #![tactic(auto)]
 
 mod found;
+mod interlocked;
 pub mod laws;
 
 pub use found::{Broken, note_if};
+pub use interlocked::{Interlocked, Method, Presence};

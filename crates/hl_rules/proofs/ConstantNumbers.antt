@@ -1,0 +1,92 @@
+-- Constant numbers are words of 32 bits, and those of an initialiser are the same before the constant is declared.
+use Rattle.std.proofs.Common.{◌≡◌, ◌∙◌, refl, sym, ap, subst, arith, ℕ, ◌+◌, ◌-◌, ◌*◌, ◌≤◌, Bool, true, false, if◌then◌else◌, nat_le, List, [], ◌∷◌, ◌++◌, Option, None, Some}
+use Rattle.std.specs.Prelude.{bytes_eq}
+use Rattle.hl_lexer.specs.declared.terminal.Terminal.{Terminal}
+use Rattle.hl_lexer.specs.declared.terminal.Terminal.TheVariants as terminals
+use Rattle.hl_lexer.specs.Numbers.{greatest_number}
+use Rattle.hl_parser.specs.Trees.{Tree, a_binary, a_primary, absent, present}
+use Rattle.hl_meaning.specs.Types.{Ty}
+use Rattle.hl_rules.specs.Constants.{combined, constant_number, number_of_sort, sum_of, word_number}
+use Rattle.hl_rules.specs.Declarations.{constant_value, with_constant}
+use Rattle.hl_rules.specs.Scopes.{Named, Scope, Sort, VariableInfo, a_buffer_name, a_function_name, a_struct_name, a_variable_name, declared_among, declared_in, sort_at, sort_of, spelled}
+use Rattle.hl_rules.specs.Source.{number_at, terminal_at}
+use Rattle.hl_rules.proofs.Fitting.{IsKnown}
+use Rattle.hl_rules.proofs.Options.{no-more, some-same}
+
+-- ---- words of 32 bits
+
+if-some : (b : Bool) (m n : ℕ) → (if b then Some m else None) ≡ Some n → (b ≡ true) × (m ≡ n)
+if-some true m n e = (refl, some-same m n e)
+if-some false m n e = absurd (cc e)
+
+sum-fits : (terminal : Terminal) (a b n : ℕ) → a ≤ greatest_number → sum_of terminal a b ≡ Some n → n ≤ greatest_number
+sum-fits terminals.Plus a b n h e =
+    let r = if-some (nat_le (a + b) greatest_number) (a + b) n e in
+    subst (λ x. x ≤ greatest_number) r.1 (no-more (a + b) greatest_number r.0)
+sum-fits terminals.Minus a b n h e =
+    let r = if-some (nat_le b a) (a - b) n e in
+    subst (λ x. x ≤ greatest_number) r.1 (omega (arith, h))
+sum-fits terminals.Star a b n h e =
+    let r = if-some (nat_le (a * b) greatest_number) (a * b) n e in
+    subst (λ x. x ≤ greatest_number) r.1 (no-more (a * b) greatest_number r.0)
+sum-fits other a b n h e = absurd (cc e)
+
+combined-fits : (terminal : Terminal) (a b : Option ℕ) (n : ℕ) → ((m : ℕ) → a ≡ Some m → m ≤ greatest_number) → combined terminal a b ≡ Some n → n ≤ greatest_number
+combined-fits terminal (Some a) (Some b) n h e = sum-fits terminal a b n (h a refl) e
+combined-fits terminal (Some a) None n h e = absurd (cc e)
+combined-fits terminal None b n h e = absurd (cc e)
+
+sort-fits : (sort : Option Sort) (n : ℕ) → ((v : VariableInfo) (m : ℕ) → sort ≡ Some (a_variable_name v) → v.number ≡ Some m → m ≤ greatest_number) → number_of_sort sort ≡ Some n → n ≤ greatest_number
+sort-fits None n h e = absurd (cc e)
+sort-fits (Some (a_variable_name v)) n h e = h v n refl e
+sort-fits (Some (a_struct_name number)) n h e = absurd (cc e)
+sort-fits (Some (a_buffer_name number)) n h e = absurd (cc e)
+sort-fits (Some a_function_name) n h e = absurd (cc e)
+
+word-fits : (s : Scope) → IsKnown s → (terminal : Terminal) (index n : ℕ) → word_number s terminal index ≡ Some n → n ≤ greatest_number
+word-fits s known terminals.Number index n e = subst (λ x. x ≤ greatest_number) (some-same (number_at s.tokens index) n e) (known.tokens.numbers index)
+word-fits s known terminals.Name index n e = sort-fits (sort_at s index) n (λ v m h k. known.numbers (spelled s index) v m h k) e
+word-fits s known other index n e = absurd (cc e)
+
+pub number-fits : (s : Scope) → IsKnown s → (e : Tree) (n : ℕ) → constant_number s e ≡ Some n → n ≤ greatest_number
+number-fits s known (a_primary at absent absent) n e = word-fits s known (terminal_at s.tokens at) at n e
+number-fits s known (a_primary at (present inner) absent) n e = number-fits s known inner n e
+number-fits s known (a_binary production at left mark right) n e =
+    combined-fits (terminal_at s.tokens mark) (constant_number s left) (constant_number s right) n (λ m h. number-fits s known left m h) e
+number-fits s known other n e = absurd (cc e)
+
+-- ---- behind one more name that is no constant number
+
+-- the number of the first sort that is found
+number-push : (names : List Named) (n : Named) (name : List ℕ) → number_of_sort (Some n.sort) ≡ None → number_of_sort (declared_in (names ++ n ∷ []) name) ≡ number_of_sort (declared_in names name)
+number-push [] n name e = on (bytes_eq n.name name) refl
+  where
+    on : (b : Bool) → bytes_eq n.name name ≡ b → number_of_sort (declared_in (n ∷ []) name) ≡ None
+    on true h = rw h e
+    on false h = rw h refl
+number-push (m ∷ names) n name e = on (bytes_eq m.name name) refl (number-push names n name e)
+  where
+    on : (b : Bool) → bytes_eq m.name name ≡ b → number_of_sort (declared_in (names ++ n ∷ []) name) ≡ number_of_sort (declared_in names name) → number_of_sort (declared_in (m ∷ (names ++ n ∷ [])) name) ≡ number_of_sort (declared_in (m ∷ names) name)
+    on true h next = rw h refl
+    on false h next = rw h next
+
+-- where no block stands around
+sort-outside : (s : Scope) (name : List ℕ) → s.blocks ≡ [] → sort_of s name ≡ declared_in s.globals name
+sort-outside s name e = ap (λ b. declared_among b name (declared_in s.globals name)) e
+
+module _ (s : Scope) (ty : Option Ty) (declarator init : Tree) (outside : s.blocks ≡ []) (none : constant_value s ty init ≡ None) where
+  word-same : (terminal : Terminal) (index : ℕ) → word_number (with_constant s ty declarator init) terminal index ≡ word_number s terminal index
+  word-same terminals.Name index =
+      ap (λ o. number_of_sort o) (sort-outside (with_constant s ty declarator init) (spelled s index) outside)
+      ∙ (number-push s.globals _ (spelled s index) none
+      ∙ ap (λ o. number_of_sort o) (sym (sort-outside s (spelled s index) outside)))
+  word-same other index = refl
+
+  -- a constant's own name is no constant number in its initialiser, so what is one there is one before it
+  pub number-same : (e : Tree) → constant_number (with_constant s ty declarator init) e ≡ constant_number s e
+  number-same (a_primary at absent absent) = word-same (terminal_at s.tokens at) at
+  number-same (a_primary at (present inner) absent) = number-same inner
+  number-same (a_binary production at left mark right) =
+      ap (λ o. combined (terminal_at s.tokens mark) o (constant_number (with_constant s ty declarator init) right)) (number-same left)
+      ∙ ap (λ o. combined (terminal_at s.tokens mark) (constant_number s left) o) (number-same right)
+  number-same other = refl

@@ -1,0 +1,13 @@
+-- How structs are held.
+use Rattle.std.specs.Prelude.{◌≡◌, ℕ, List, Option, map, option_map}
+use Rattle.hl_values.specs.declared.structs.StructInfo.{StructInfo}
+use Rattle.hl_values.specs.StructTables.{Members, plain_structs}
+use Rattle.hl_values.specs.WordCounts.{counted}
+
+abbrev pub members_of : StructInfo → Members
+members_of d = (d.name.now, d.members)
+
+-- the words of all structs are counted
+abbrev pub AreCounted : List StructInfo → Type 0
+AreCounted structs =
+    map (λ d. d.words) structs ≡ map (λ d. option_map counted d.words) (plain_structs (map members_of structs))

@@ -14,6 +14,7 @@ use Rattle.hl_meaning.specs.declared.expression.PathPart.TheVariants as parts
 use Rattle.hl_meaning.specs.declared.expression.PathPart.TheVariants.{rolls-Member, rolls-Index, rolls-Swizzle}
 use Rattle.hl_meaning.specs.Trees.{PathParts, a_location, an_expr, index_part, literal_form, member_part, more_parts, no_parts, pick_form, swizzle_part}
 use Rattle.hl_meaning.specs.Trees as plain
+use Rattle.hl_meaning.specs.Places.{is_literal}
 use Rattle.hl_meaning.specs.Types.{Ty}
 use Rattle.hl_meaning.specs.Views.{plain_expr, plain_form, plain_location, plain_part, plain_parts, plain_root, plain_ty}
 use Rattle.hl_meaning.proofs.Plain.{plain_expr-is, plain_form-Atomic, plain_form-Binary, plain_form-Build, plain_form-Call, plain_form-Choose, plain_form-Convert, plain_form-Intrinsic, plain_form-Literal, plain_form-Method, plain_form-Pick, plain_form-Read, plain_form-Unary, plain_form-Write, plain_location-is, plain_part-Index, plain_part-Member, plain_part-Swizzle}
@@ -192,3 +193,15 @@ pub place-stepped : (at first : ℕ) (part : plain.PathPart) (ty : Ty) (place sh
 place-stepped at first part ty place shown stepped made same is e =
     ap (a_place_code at) (is ∙ ap (a_location ty (plain_root shown.root)) e) ∙
     sym (ap (λ (p : Location). with_part at part ty (a_place_code first (plain_location p))) (sym same) ∙ ap (λ l. with_part at part ty (a_place_code first l)) (plain_location-is shown))
+
+-- ---- literals
+
+literal-test : (ty : Ty) (at : ℕ) (form : plain.Form) → is_literal (an_expr ty at form) ≡ is_literal_form form
+literal-test ty at (literal_form word) = refl
+literal-test ty at form = refl
+
+pub literal-yes : (e : Expr) (word : ℕ) → e.form ≡ forms.Literal word → is_literal (plain_expr e) ≡ true
+literal-yes e word is = ap is_literal (plain_expr-is e) ∙ ap (λ f. is_literal (an_expr (plain_ty e.ty) e.at f)) (ap plain_form is ∙ plain_form-Literal word)
+
+pub literal-no : (e : Expr) → ((word : ℕ) → e.form ≡ forms.Literal word → ⊥) → is_literal (plain_expr e) ≡ false
+literal-no e other = ap is_literal (plain_expr-is e) ∙ (literal-test (plain_ty e.ty) e.at (plain_form e.form) ∙ form-no_literal e.form other)

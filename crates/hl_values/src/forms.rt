@@ -3,10 +3,11 @@
 ghost use Rattle.std.specs.Prelude.{◌≡◌, ◌≤◌, Bool, IfOk, IfSome, List, Some, length, map, option_and_then, option_map};
 ghost use Rattle.std.specs.Option.{option_copied};
 ghost use Rattle.hl_meaning.specs.declared.ty.Kind.TheVariants.{Bool as BoolKind, Int as IntKind};
+ghost use Rattle.hl_meaning.specs.Places.{is_literal};
 ghost use Rattle.hl_meaning.specs.Trees.{an_expr, literal_form, place_type, write_form};
 ghost use Rattle.hl_meaning.specs.Types.{scalar_type, with_kind};
 ghost use Rattle.hl_meaning.specs.Views.{plain_expr, plain_location, plain_ty};
-ghost use Rattle.hl_rules.specs.Expressions.{binary_code, assignment_code, choice_code, compound_code, compound_mark, constructor_code, index_expr, indexed_code, member_code, plain_assignment, signed_code, step_mark, swizzled_code, with_three, with_two};
+ghost use Rattle.hl_rules.specs.Expressions.{binary_code, assignment_code, choice_code, compound_code, compound_mark, constructor_code, index_expr, indexed_code, member_code, no_literal, plain_assignment, signed_code, step_mark, swizzled_code, with_three, with_two};
 ghost use Rattle.hl_rules.specs.Nodes.{a_value, a_value_code, converted_code, type_of_code};
 ghost use Rattle.hl_rules.specs.Operands.{choice_type, operand_type, operator_type};
 ghost use Rattle.hl_rules.specs.Sites.{compound_production};
@@ -393,7 +394,38 @@ pub fn index_expr(
             let index = node(HlType::Scalar(Kind::Uint), at, Form::Literal(number));
             Ok(Some(Boxed::new(alloc, index)?))
         }
-        None => converted_code(&HlType::Scalar(Kind::Uint), code, alloc),
+        None => {
+            let Some(index) = converted_code(&HlType::Scalar(Kind::Uint), code, alloc)? else {
+                return Ok(None);
+            };
+            Ok(Some(no_literal(index, alloc)?))
+        }
+    }
+}
+
+/// The number of the mark `+`.
+const PLUS: u8 = 12;
+
+/// What isn't a constant number as no literal: a literal stands behind a `+`.
+fn no_literal(value: Boxed<Expr>, alloc: Global) -> Result<Boxed<Expr>, NoMemory>
+    ensures { IfOk result (λ made. plain_expr made ≡ no_literal (plain_expr value)) }
+{
+    if !is_literal(value.get()) {
+        return Ok(value);
+    }
+    let at = value.get().at;
+    let ty = value.get().ty.copied(alloc)?;
+    let made = node(ty, at, Form::Unary { op: PLUS, value });
+    Ok(Boxed::new(alloc, made)?)
+}
+
+/// Whether an expression is a literal.
+fn is_literal(value: &Expr) -> bool
+    ensures { result ≡ is_literal (plain_expr value.now) }
+{
+    match &value.form {
+        Form::Literal(_) => true,
+        _ => false,
     }
 }
 

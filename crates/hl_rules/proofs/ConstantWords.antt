@@ -6,14 +6,14 @@ use Rattle.hl_parser.specs.Trees.{Tree, Trees, a_primary, a_unary, absent, an_in
 use Rattle.hl_meaning.specs.declared.ty.Kind.{Kind}
 use Rattle.hl_meaning.specs.Types.{Ty, is_scalar}
 use Rattle.hl_rules.specs.Constants.{constant_number}
-use Rattle.hl_rules.specs.DeclarationRules.{are_constant_inits, is_constant_init, is_known, is_minus, is_other, is_signed_or_truth, leaves_among}
+use Rattle.hl_rules.specs.DeclarationRules.{are_constant_inits, is_constant_init, is_minus, is_other, is_signed_or_truth, leaves_among}
 use Rattle.hl_rules.specs.Declarations.{constant_value, is_number_type, with_constant}
 use Rattle.hl_rules.specs.Elaboration.{init_words}
 use Rattle.hl_rules.specs.Parts.{a_brace_init, a_constant_init, site}
 use Rattle.hl_rules.specs.Scopes.{Scope, words_if}
 use Rattle.hl_rules.specs.Sites.{constant_sites, init_sites, leaves_sites}
 use Rattle.hl_rules.specs.Source.{terminal_at}
-use Rattle.hl_rules.specs.Values.{type_in}
+use Rattle.hl_rules.specs.Values.{is_known, type_in}
 use Rattle.hl_rules.proofs.ConstantForms.{HasWords, brace-words, is_constant_leaf, value-words}
 use Rattle.hl_rules.proofs.ConstantNumbers.{number-same}
 use Rattle.hl_rules.proofs.Fitting.{IsKnown}

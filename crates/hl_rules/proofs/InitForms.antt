@@ -13,13 +13,13 @@ use Rattle.hl_meaning.specs.Layout.{kinds_of, words_in, words_of}
 use Rattle.hl_meaning.specs.Places as places
 use Rattle.hl_meaning.specs.Programs.{StructDef}
 use Rattle.hl_meaning.specs.WellFormed.{AreExprs, Builds, IsExpr}
-use Rattle.hl_rules.specs.DeclarationRules.{is_known, is_other, leaves_among, leaves_of}
+use Rattle.hl_rules.specs.DeclarationRules.{is_other, leaves_among, leaves_of}
 use Rattle.hl_rules.specs.Expressions.{value_in}
 use Rattle.hl_rules.specs.Parts.{a_brace_init, a_conversion, site}
 use Rattle.hl_rules.specs.Scopes.{Scope, words_if}
 use Rattle.hl_rules.specs.Sites.{init_sites, leaf_sites, leaves_sites, value_sites}
 use Rattle.hl_rules.specs.Statements.{init_code, leaf_codes, struct_def, struct_defs}
-use Rattle.hl_rules.specs.Values.{type_in}
+use Rattle.hl_rules.specs.Values.{is_known, type_in}
 use Rattle.hl_rules.proofs.Becoming.{with_two-there}
 use Rattle.hl_rules.proofs.DeclaratorForms.{IsKnownAs}
 use Rattle.hl_rules.proofs.Fitting.{Fits}

@@ -11,7 +11,7 @@ use Rattle.hl_meaning.specs.Programs.{StructDef}
 use Rattle.hl_meaning.specs.Places as places
 use Rattle.hl_meaning.proofs.LayoutLemmas.{words-scalar}
 use Rattle.hl_meaning.specs.WellFormed.{IsExpr, IsResult}
-use Rattle.hl_rules.specs.DeclarationRules.{is_known}
+use Rattle.hl_rules.specs.Values.{is_known}
 use Rattle.hl_rules.specs.ExpressionRules.{is_no_conversion}
 use Rattle.hl_rules.specs.Expressions.{code_of, value_in}
 use Rattle.hl_rules.specs.Nodes.{converted, converted_code, type_of_code, value_of_code}

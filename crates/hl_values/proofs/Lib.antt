@@ -1,6 +1,11 @@
+pub mod BasicLemmas
 pub mod ChangeLemmas
+pub mod FormLemmas
+pub mod LetterLemmas
 pub mod NameLemmas
+pub mod NodeLemmas
 pub mod NotedLemmas
 pub mod ScopeLemmas
+pub mod StepLemmas
 pub mod StructLemmas
 pub mod WordLemmas

@@ -1,7 +1,9 @@
+pub mod Basics
 pub mod NameEntries
 pub mod NameTables
 pub mod ScopeChanges
 pub mod ScopeViews
+pub mod Steps
 pub mod StructEntries
 pub mod StructTables
 pub mod Views

@@ -10,13 +10,12 @@ use Rattle.hl_meaning.specs.Places.{is_atomic_place}
 use Rattle.hl_meaning.specs.Trees.{Location, a_location, place_target, place_type}
 use Rattle.hl_meaning.specs.WellFormed.{IsPlace}
 use Rattle.hl_rules.specs.declared.interlocked.Interlocked.{Interlocked}
-use Rattle.hl_rules.specs.DeclarationRules.{is_known}
 use Rattle.hl_rules.specs.ExpressionRules.{is_no_target}
 use Rattle.hl_rules.specs.Expressions.{interlocked_code}
 use Rattle.hl_rules.specs.Intrinsics.{Operands, interlocked_form, operands_of}
 use Rattle.hl_rules.specs.Nodes.{Code, a_place_code, a_value_code, interlocked, place_of_code, type_of_code}
 use Rattle.hl_rules.specs.Scopes.{Scope}
-use Rattle.hl_rules.specs.Values.{Standing, Value, a_place, atomic_fits, is_word, no_place, operands_fit, plain_value, result_by_form, target_operands_fit, unclear, value, valued}
+use Rattle.hl_rules.specs.Values.{Standing, Value, a_place, atomic_fits, is_known, is_word, no_place, operands_fit, plain_value, result_by_form, target_operands_fit, unclear, value, valued}
 use Rattle.hl_rules.proofs.Arguments.{ArgumentsBecome, IsArgument}
 use Rattle.hl_rules.proofs.AtomicForms.{interlocked-becomes, place-original}
 use Rattle.hl_rules.proofs.AtomicKinds.{WordView, is_int, is_uint, word-view}

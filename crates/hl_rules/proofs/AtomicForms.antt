@@ -112,16 +112,19 @@ interlocked-becomes s at target kind number form test o made a found word fit ta
       type = refl;
       agrees = tt;
       fits = λ env f.
-          let result = short-result env.structs (scalar_type kind) tt in
-          (tt,
-          (refl,
-          subst (λ t. IsTarget env t target) (sym v.type) (targets env f),
-          v.stands env (argument-stands s o.value a.to.value a.value_is env f) result,
-          subst (λ t. IsWord t) (sym v.type) word,
-          subst (λ t. IsCompared env t (kind_for form (scalar_type kind)) (expr_if c.to)) (sym v.type)
-          (compared-is env (scalar_type kind) (kind_for form (scalar_type kind)) form.compares form.original c.to kinded (c.there ∙ a.comparing) (λ x k. c.stands env f result x k)),
-          original-is env (scalar_type kind) target (kind_for form (scalar_type kind)) form.compares form.original r.to kinded (λ k. a.absent (sym r.there ∙ k))
-          (λ place k.
-          let p : IsPlace env place × IsTrue (is_writable_place env place) × (test (place_type place) ≡ true) = r.stands env f place k in
-          originals env (kind_for form (scalar_type kind)) place p.0 p.1 p.2)));
+          let result = short-result env.structs (scalar_type kind) tt in (
+            tt,
+            (
+              refl,
+              subst (λ t. IsTarget env t target) (sym v.type) (targets env f),
+              v.stands env (argument-stands s o.value a.to.value a.value_is env f) result,
+              subst (λ t. IsWord t) (sym v.type) word,
+              subst (λ t. IsCompared env t (kind_for form (scalar_type kind)) (expr_if c.to)) (sym v.type)
+                  (compared-is env (scalar_type kind) (kind_for form (scalar_type kind)) form.compares form.original c.to kinded (c.there ∙ a.comparing) (λ x k. c.stands env f result x k)),
+              original-is env (scalar_type kind) target (kind_for form (scalar_type kind)) form.compares form.original r.to kinded (λ k. a.absent (sym r.there ∙ k))
+                  (λ place k.
+                  let p : IsPlace env place × IsTrue (is_writable_place env place) × (test (place_type place) ≡ true) = r.stands env f place k in
+                  originals env (kind_for form (scalar_type kind)) place p.0 p.1 p.2),
+            ),
+          );
     }

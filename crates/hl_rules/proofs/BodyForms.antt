@@ -88,8 +88,8 @@ module _ (structs : List StructDef) (resources : List Resource) (shared : List V
     more = inner-names.more;
     prefix = inner-names.prefix;
     structs =
-      subst (λ l. FitsStructs (after_params (at_params s result) params).structs l) (sym inner-names.prefix)
-      (structs-fit (after_params (at_params s result) params).structs inner-names.more declares.sound.structs);
+        subst (λ l. FitsStructs (after_params (at_params s result) params).structs l) (sym inner-names.prefix)
+        (structs-fit (after_params (at_params s result) params).structs inner-names.more declares.sound.structs);
     buffers = λ number buffer e. buffer-moved structs resources shared constants fs (param_variables (at_params s result) params ++ others) known.type number buffer (stands.buffers number buffer (ap (λ l. slice_get l number) (sym declares.same.buffers) ∙ e));
     variables = λ n v ty e h. sorts-global (FitSort inner_env) (after_params (at_params s result) params) (named (spelled s name) a_function_name) inner-names.names tt n (a_variable_name v) e ty h;
     functions = λ number f e h. functions-fit number f (get-push s.functions (function_info s result name params) number f e) h;

@@ -143,9 +143,10 @@ all-passed s (p ∷ params) (more_trees first rest) (code ∷ codes) sum h e k =
     given a b = record {
       to = more_args a.to b.to;
       is = passed-more p params code codes a.to b.to a.is b.is;
-      stands = λ env f d.
-          (a.stands env f (declared-result env.structs p.ty (d 0 p (omega arith))),
-          b.stands env f (λ i q l. d (suc i) q (omega arith)));
+      stands = λ env f d. (
+        a.stands env f (declared-result env.structs p.ty (d 0 p (omega arith))),
+        b.stands env f (λ i q l. d (suc i) q (omega arith)),
+      );
     }
 
 -- ---- calls
@@ -175,7 +176,8 @@ function-becomes s at candidate result trees codes sum c r h e k = given (all-pa
       agrees = tt;
       fits = λ env f.
           let own : FitsFunction env c.f (slice_get env.functions candidate.number) = f.functions candidate.number c.f c.there c.other in
-          let params : (callee_params (slice_get env.functions candidate.number) ≡ map param_for candidate.params) × All (λ p. IsDeclared env.structs p.ty) candidate.params = own.params candidate.params c.params in
-          ((own.result result r).1,
-          ((own.result result r).0, subst (λ ps. ArePassed env ps a.to) (sym params.0) (a.stands env f params.1)));
+          let params : (callee_params (slice_get env.functions candidate.number) ≡ map param_for candidate.params) × All (λ p. IsDeclared env.structs p.ty) candidate.params = own.params candidate.params c.params in (
+            (own.result result r).1,
+            ((own.result result r).0, subst (λ ps. ArePassed env ps a.to) (sym params.0) (a.stands env f params.1)),
+          );
     }

@@ -96,9 +96,9 @@ known-result structs s ty known declared = result-kept structs s known.type decl
 pub function-fits : (env : places.Scope) (s : Scope) (tokens : List Lexeme) (result : Tree) (name : ℕ) (params : Trees) (block : Tree) (body : Stmts) (typed : AreTypedParams (at_params s result) params) (known : IsKnownResult s (result_type s result)) → AllTrees (IsParam tokens) params → ((ty : Ty) → IsKnownType (known_words s.structs) ty → IsDeclared env.structs ty) → FitsFunction env (function_info s result name params) (Some (made_function s result name params block known.type body))
 function-fits env s tokens result name params block body typed known shape declared = record {
   params = λ passed e.
-    subst (λ l. (callee_params (Some (made_function s result name params block known.type body)) ≡ map param_for l) × All (λ (p : Param). IsDeclared env.structs p.ty) l)
-    (some-same (passed_of (at_params s result) params typed) passed (sym (passed-known (at_params s result) params typed) ∙ e))
-    (callee-params s (at_params s result) tokens [] (body_variables (in_body s result name params) block) 0 params typed refl refl shape, passed-declared env.structs (at_params s result) tokens params typed shape declared);
+      subst (λ l. (callee_params (Some (made_function s result name params block known.type body)) ≡ map param_for l) × All (λ (p : Param). IsDeclared env.structs p.ty) l)
+      (some-same (passed_of (at_params s result) params typed) passed (sym (passed-known (at_params s result) params typed) ∙ e))
+      (callee-params s (at_params s result) tokens [] (body_variables (in_body s result name params) block) 0 params typed refl refl shape, passed-declared env.structs (at_params s result) tokens params typed shape declared);
   result = λ ty e. (
     ap (λ t. Some t) (some-same known.type ty (sym known.is ∙ e)),
     subst (λ t. IsResult env.structs t) (some-same known.type ty (sym known.is ∙ e)) (known-result env.structs s (result_type s result) known declared),

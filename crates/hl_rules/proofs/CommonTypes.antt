@@ -208,4 +208,3 @@ one-common (x ∷ types) ty e = on (is_basic x) refl e
     on : (basic : Bool) → is_basic x ≡ basic → common_behind (if basic then Some (with_kind kind x) else None) types ≡ Some ty → AreOne (x ∷ types) ty
     on true h k = given h (behind-common (with_kind kind x) types ty (basic-kind kind x h) k)
     on false h k = absurd (none-behind types ty k)
-

@@ -42,9 +42,9 @@ pub constant-kept : (env : places.Scope) (s : Scope) → IsSound s → s.blocks 
 constant-kept env s sound outside fits ty declarator init known free = record {
   type = variable-kept env s sound fits ty declarator known;
   words =
-    subst (λ o. HoldWords (kinds_of env.structs (unwrap_or o void_type)) (unwrap_or (option_and_then (λ own. init_words s (kinds_of (struct_defs s.structs) own) init) o) [])) (sym known.is)
-    (subst (λ kinds. HoldWords kinds (unwrap_or (init_words s (kinds_of (struct_defs s.structs) known.type) init) [])) (sym (program-kinds s env.structs fits.more known.type fits.prefix known.known))
-    (subst (λ o. HoldWords (kinds_of (struct_defs s.structs) known.type) (unwrap_or o [])) (sym words.is) words.hold));
+      subst (λ o. HoldWords (kinds_of env.structs (unwrap_or o void_type)) (unwrap_or (option_and_then (λ own. init_words s (kinds_of (struct_defs s.structs) own) init) o) [])) (sym known.is)
+      (subst (λ kinds. HoldWords kinds (unwrap_or (init_words s (kinds_of (struct_defs s.structs) known.type) init) [])) (sym (program-kinds s env.structs fits.more known.type fits.prefix known.known))
+      (subst (λ o. HoldWords (kinds_of (struct_defs s.structs) known.type) (unwrap_or o [])) (sym words.is) words.hold));
 }
   where
     words : HasWords (kinds_of (struct_defs s.structs) known.type) (init_words s (kinds_of (struct_defs s.structs) known.type) init)

@@ -83,25 +83,25 @@ module _ (structs : List StructDef) (resources : List Resource) (shared : List V
       known = known;
       code = made.to;
       is =
-        ap (λ o. with_two (λ ty body. Some (made_function s result name params block ty body)) o (body_code (in_body s result name params) block)) known.is
-        ∙ ap (λ o. with_two (λ ty body. Some (made_function s result name params block ty body)) (Some known.type) o) made.is;
+          ap (λ o. with_two (λ ty body. Some (made_function s result name params block ty body)) o (body_code (in_body s result name params) block)) known.is
+          ∙ ap (λ o. with_two (λ ty body. Some (made_function s result name params block ty body)) (Some known.type) o) made.is;
       kept = record {
         result = known-result structs s (result_type s result) known declared-here;
         variables =
-          All-append (λ (v : Variable). IsDeclared structs v.ty) (param_variables (at_params s result) params) (body_variables (in_body s result name params) block)
-          (declared-variables structs (known_words s.structs) (param_variables (at_params s result) params) declared-here declares.types)
-          (declared-variables structs (known_words (in_body s result name params).structs) (body_variables (in_body s result name params) block)
-          (subst (λ l. (ty : Ty) → IsKnownType (known_words l) ty → IsDeclared structs ty) (sym same-structs) declared-here) made.types);
+            All-append (λ (v : Variable). IsDeclared structs v.ty) (param_variables (at_params s result) params) (body_variables (in_body s result name params) block)
+            (declared-variables structs (known_words s.structs) (param_variables (at_params s result) params) declared-here declares.types)
+            (declared-variables structs (known_words (in_body s result name params).structs) (body_variables (in_body s result name params) block)
+            (subst (λ l. (ty : Ty) → IsKnownType (known_words l) ty → IsDeclared structs ty) (sym same-structs) declared-here) made.types);
         numbered = numbered-from s 0 params;
         there = omega (arith, same-count s (at_params s result) s.tokens 0 params shape, length-append (param_variables (at_params s result) params) (body_variables (in_body s result name params) block));
         body =
-          subst (λ b. AreStmts (inner_env structs resources shared constants s rs ss cs fs stands more prefix result name params known declares (body_variables (in_body s result name params) block)) b made.to) outside-loops
-          (made.are (inner_env structs resources shared constants s rs ss cs fs stands more prefix result name params known declares (body_variables (in_body s result name params) block)) fits-here holds-here);
+            subst (λ b. AreStmts (inner_env structs resources shared constants s rs ss cs fs stands more prefix result name params known declares (body_variables (in_body s result name params) block)) b made.to) outside-loops
+            (made.are (inner_env structs resources shared constants s rs ss cs fs stands more prefix result name params known declares (body_variables (in_body s result name params) block)) fits-here holds-here);
         returns =
-          returns-there (is_void known.type) (one_returns made.to) (is_no_result result) (always_returns s.tokens block)
-          (not_broken (not (is_no_result result) && not (always_returns s.tokens block)) name free.whole.obeys_21)
-          (λ e. void-result s result known.type e known.is)
-          (made.always ∙ ap (λ tokens. always_returns tokens block) same-tokens);
+            returns-there (is_void known.type) (one_returns made.to) (is_no_result result) (always_returns s.tokens block)
+            (not_broken (not (is_no_result result) && not (always_returns s.tokens block)) name free.whole.obeys_21)
+            (λ e. void-result s result known.type e known.is)
+            (made.always ∙ ap (λ tokens. always_returns tokens block) same-tokens);
       };
     }
 

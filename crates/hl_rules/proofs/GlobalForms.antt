@@ -46,8 +46,8 @@ sound-buffer s b sound known = record {
     numbers = λ name v number e h. sound.known.numbers name v number e h;
     members = λ number member name e. sound.known.members number member name e;
     buffers = λ name number e.
-      let r = sound.known.buffers name number e in
-      (r.0, get-front s.buffers (b ∷ []) number (slice_get_within s.buffers number r.0 r.1) ∙ r.1);
+        let r = sound.known.buffers name number e in
+        (r.0, get-front s.buffers (b ∷ []) number (slice_get_within s.buffers number r.0 r.1) ∙ r.1);
     elements = λ number buffer e h. on number buffer h (get-push s.buffers b number buffer e);
     functions = λ number f e. sound.known.functions number f e;
   };
@@ -96,8 +96,8 @@ sound-struct s d sound known = record {
     variables = λ name v e. sound.known.variables name v e;
     numbers = λ name v number e h. sound.known.numbers name v number e h;
     members = λ number member name e.
-      let r = named-member (record s { structs = s.structs ++ d ∷ [] }) number member name (known-push [] s.structs d sound.structs known) e in
-      (r.type, r.is);
+        let r = named-member (record s { structs = s.structs ++ d ∷ [] }) number member name (known-push [] s.structs d sound.structs known) e in
+        (r.type, r.is);
     buffers = λ name number e. sound.known.buffers name number e;
     elements = λ number buffer e h. sound.known.elements number buffer e h;
     functions = λ number f e. sound.known.functions number f e;

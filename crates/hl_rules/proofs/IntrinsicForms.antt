@@ -45,10 +45,13 @@ intrinsic-becomes s at number values codes h e = on (signature_of number) refl (
       type = result-made number values (map type_of_code codes) signature p k l;
       agrees = tt;
       fits = λ env f.
-          let r : AllResults env p.takes × IsResult env.structs p.gives = is.results env (arguments-results s values codes h env f) in
-          (r.1,
-          (c.stands env f r.0,
-          subst (λ o. HasSignatureOf o (types_of c.to) p.gives) (sym k) (subst (λ ts. HasSignature signature ts p.gives) (sym c.types) is.has)));
+          let r : AllResults env p.takes × IsResult env.structs p.gives = is.results env (arguments-results s values codes h env f) in (
+            r.1,
+            (
+              c.stands env f r.0,
+              subst (λ o. HasSignatureOf o (types_of c.to) p.gives) (sym k) (subst (λ ts. HasSignature signature ts p.gives) (sym c.types) is.has),
+            ),
+          );
     }
 
     given : (signature : Signature) (p : Passing) → signature_of number ≡ Some signature → passed signature (map type_of_code codes) ≡ Some p → IsPassing signature (map type_of_code codes) p → Becomes s (plain_value (result_by_form None number values (map type_of_code codes))) (code_by_form None at number codes)

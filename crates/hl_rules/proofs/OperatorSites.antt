@@ -11,7 +11,6 @@ use Rattle.hl_meaning.specs.Operators.{is_among, negating, signing}
 use Rattle.hl_meaning.specs.Trees.{Location, a_location, place_type}
 use Rattle.hl_meaning.specs.Places as places
 use Rattle.hl_rules.specs.Constants.{basic_type}
-use Rattle.hl_rules.specs.DeclarationRules.{is_known}
 use Rattle.hl_rules.specs.ExpressionRules.{is_unwritable}
 use Rattle.hl_rules.specs.Expressions.{binary_code, choice_code, code_of, prefix_code, signed_code, step_code, with_two}
 use Rattle.hl_rules.specs.Nodes.{Code, a_place_code, a_value_code, converted_code, type_of_code, value_of_code}
@@ -20,7 +19,7 @@ use Rattle.hl_rules.specs.Parts.{Part, Site, a_cast, a_written_side, site}
 use Rattle.hl_rules.specs.Scopes.{Scope}
 use Rattle.hl_rules.specs.Sites.{expression_sites, operated, prefix_sites, used}
 use Rattle.hl_rules.specs.Source.{mark_at, terminal_at}
-use Rattle.hl_rules.specs.Values.{Standing, Value, a_place, may_be_written, no_place, operand_of, plain_value, prefix_type, standing_in, type_in, unclear, value_of, valued}
+use Rattle.hl_rules.specs.Values.{Standing, Value, a_place, is_known, may_be_written, no_place, operand_of, plain_value, prefix_type, standing_in, type_in, unclear, value_of, valued}
 use Rattle.hl_rules.proofs.Becoming.{Agrees, Becomes, IsOperand, IsValueIn, becomes-stands, not-true, of_two-there, operated-known, used-known, valued-there, with_two-there}
 use Rattle.hl_rules.proofs.BinaryForms.{binary-becomes}
 use Rattle.hl_rules.proofs.ChoiceForms.{choice-becomes}

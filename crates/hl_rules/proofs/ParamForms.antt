@@ -27,8 +27,7 @@ pub typed-params : (s : Scope) → IsSound s → (entry : Bool) (before params :
 typed-params s sound entry before no_trees shape free = tt
 typed-params s sound entry before (more_trees (a_param at constant direction type declarator semantic) rest) shape free =
     let param = a_param at constant direction type declarator semantic in
-    let own = free-param s entry before param rest free in
-    (
+    let own = free-param s entry before param rest free in (
       param-known s sound at constant direction type declarator semantic shape.0 own,
       typed-params (after_param s param) (param-declares s sound param shape.0 own).sound entry (and_tree before param) rest shape.1 (free-params s entry before param rest free),
     )

@@ -76,11 +76,13 @@ buffer-writes env number buffer f e = ap (λ o. is_writable o) f.there ∙ one-c
 
 pub element-stands : (env : places.Scope) (number : ℕ) (buffer : BufferInfo) (ty : Ty) (index : Expr) → FitsBuffer env number buffer → buffer.raw ≡ false → buffer.element ≡ Some ty → IsExpr env index → type_of index ≡ uint_type → IsStanding env buffer.writable buffer.writable [] ty (element_root number index) no_parts
 element-stands env number buffer ty index f e h k l = record {
-  is = ((f.element ty e h).1,
-  (k, l),
-  tt,
-  root-reached env (element_root number index) ty
-  (ap (λ o. option_and_then element_type o) f.there ∙ element-root f.resource.raw buffer.raw f.resource.element ty f.raw e (f.element ty e h).0));
+  is = (
+    (f.element ty e h).1,
+    (k, l),
+    tt,
+    root-reached env (element_root number index) ty
+        (ap (λ o. option_and_then element_type o) f.there ∙ element-root f.resource.raw buffer.raw f.resource.element ty f.raw e (f.element ty e h).0),
+  );
   writes = buffer-writes env number buffer f;
   shares = buffer-writes env number buffer f;
   ends = refl;

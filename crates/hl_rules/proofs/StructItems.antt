@@ -29,10 +29,10 @@ declarators-known : (s : Scope) → IsSound s → (ty : Option Ty) → IsKnownAs
 declarators-known s sound ty known before no_trees shape free = tt
 declarators-known s sound ty known before (more_trees first rest) shape free = (
   (let own = declarator-known s sound ty known first shape.0 (free-left (declarator_sites s ty first) (site s (a_member_name before (at_of first)) ∷ declarators_sites s ty (before ++ record { name = spelled s (at_of first); ty = declarator_type s ty first } ∷ []) rest) free) in
-  record { type = own.type; is = own.is; known = own.known }),
+      record { type = own.type; is = own.is; known = own.known }),
   declarators-known s sound ty known (before ++ record { name = spelled s (at_of first); ty = declarator_type s ty first } ∷ []) rest shape.1
-  (free-rest (site s (a_member_name before (at_of first))) (declarators_sites s ty (before ++ record { name = spelled s (at_of first); ty = declarator_type s ty first } ∷ []) rest)
-  (free-right (declarator_sites s ty first) (site s (a_member_name before (at_of first)) ∷ declarators_sites s ty (before ++ record { name = spelled s (at_of first); ty = declarator_type s ty first } ∷ []) rest) free)),
+      (free-rest (site s (a_member_name before (at_of first))) (declarators_sites s ty (before ++ record { name = spelled s (at_of first); ty = declarator_type s ty first } ∷ []) rest)
+      (free-right (declarator_sites s ty first) (site s (a_member_name before (at_of first)) ∷ declarators_sites s ty (before ++ record { name = spelled s (at_of first); ty = declarator_type s ty first } ∷ []) rest) free)),
 )
 
 members-known : (s : Scope) → IsSound s → (before : List MemberInfo) (members : Trees) → AllTrees (IsMember s.tokens) members → IsFree (members_sites s before members) → AreKnownMembers (known_words s.structs) (members_info s members)
@@ -81,12 +81,12 @@ struct-known s sound name members some shape free = record {
   members = known;
   has_words = words;
   fits =
-    few (info_words (known_words s.structs) (members_info s members))
-    (ap (λ o. is_more most_words o) (sym words)
-    ∙ not_broken (is_more most_words (members_words s.structs (members_info s members))) name
-    (free-first (site s (a_whole_struct name (struct_info s name members).words)) []
-    (free-rest (site s (a_global_name name)) (site s (a_whole_struct name (struct_info s name members).words) ∷ [])
-    (free-right (members_sites s [] members) (site s (a_global_name name) ∷ site s (a_whole_struct name (struct_info s name members).words) ∷ []) free))).obeys_42);
+      few (info_words (known_words s.structs) (members_info s members))
+      (ap (λ o. is_more most_words o) (sym words)
+      ∙ not_broken (is_more most_words (members_words s.structs (members_info s members))) name
+      (free-first (site s (a_whole_struct name (struct_info s name members).words)) []
+      (free-rest (site s (a_global_name name)) (site s (a_whole_struct name (struct_info s name members).words) ∷ [])
+      (free-right (members_sites s [] members) (site s (a_global_name name) ∷ site s (a_whole_struct name (struct_info s name members).words) ∷ []) free))).obeys_42);
 }
   where
     known : AreKnownMembers (known_words s.structs) (members_info s members)

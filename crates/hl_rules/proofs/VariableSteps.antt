@@ -52,8 +52,8 @@ module _ (structs : List StructDef) (resources : List Resource) (shared : List V
   pub stands-shared : (ty : Option Ty) (declarator : Tree) (behind : List Variable) → IsKnownAs s (declarator_type s ty declarator) → shared ≡ ss ++ declared_variable s ty declarator ∷ behind → Stands (program_env structs resources shared constants) (with_shared ty s declarator) rs (ss ++ declared_variable s ty declarator ∷ []) cs fs
   stands-shared ty declarator behind known e = record {
     sound =
-      sound-counts (with_global (named (spelled s (at_of declarator)) (variable (shared_root s.shared) (declarator_type s ty declarator) false None)) s) (suc s.shared) s.constants
-      (sound-global (named (spelled s (at_of declarator)) (variable (shared_root s.shared) (declarator_type s ty declarator) false None)) s stands.sound ((known.type, known.is), λ number h. absurd (cc h)));
+        sound-counts (with_global (named (spelled s (at_of declarator)) (variable (shared_root s.shared) (declarator_type s ty declarator) false None)) s) (suc s.shared) s.constants
+        (sound-global (named (spelled s (at_of declarator)) (variable (shared_root s.shared) (declarator_type s ty declarator) false None)) s stands.sound ((known.type, known.is), λ number h. absurd (cc h)));
     outside = stands.outside;
     resources = stands.resources;
     shared = length-push ss (declared_variable s ty declarator) s.shared stands.shared;
@@ -77,9 +77,9 @@ module _ (structs : List StructDef) (resources : List Resource) (shared : List V
   pub stands-constant : (ty : Option Ty) (declarator init : Tree) (behind : List Constant) → IsKnownAs s (declarator_type s ty declarator) → constants ≡ cs ++ declared_constant s ty declarator init ∷ behind → Stands (program_env structs resources shared constants) (with_constant s (declarator_type s ty declarator) declarator init) rs ss (cs ++ declared_constant s ty declarator init ∷ []) fs
   stands-constant ty declarator init behind known e = record {
     sound =
-      sound-counts (with_global (named (spelled s (at_of declarator)) (variable (constant_root s.constants) (declarator_type s ty declarator) true (constant_value s (declarator_type s ty declarator) init))) s) s.shared (suc s.constants)
-      (sound-global (named (spelled s (at_of declarator)) (variable (constant_root s.constants) (declarator_type s ty declarator) true (constant_value s (declarator_type s ty declarator) init))) s stands.sound
-      ((known.type, known.is), λ number h. value-fits s stands.sound.known (declarator_type s ty declarator) init number h));
+        sound-counts (with_global (named (spelled s (at_of declarator)) (variable (constant_root s.constants) (declarator_type s ty declarator) true (constant_value s (declarator_type s ty declarator) init))) s) s.shared (suc s.constants)
+        (sound-global (named (spelled s (at_of declarator)) (variable (constant_root s.constants) (declarator_type s ty declarator) true (constant_value s (declarator_type s ty declarator) init))) s stands.sound
+        ((known.type, known.is), λ number h. value-fits s stands.sound.known (declarator_type s ty declarator) init number h));
     outside = stands.outside;
     resources = stands.resources;
     shared = stands.shared;

@@ -12,7 +12,6 @@ use Rattle.hl_meaning.specs.Operators.{computing, is_among}
 use Rattle.hl_meaning.specs.Trees.{Location, a_location, place_type}
 use Rattle.hl_meaning.specs.Places as places
 use Rattle.hl_meaning.specs.WellFormed.{IsExpr}
-use Rattle.hl_rules.specs.DeclarationRules.{is_known}
 use Rattle.hl_rules.specs.ExpressionRules.{is_no_conversion, is_unwritable}
 use Rattle.hl_rules.specs.Expressions.{assignment_code, code_of, compound_code, plain_assignment, prefix_code, signed_code, step_code, with_two}
 use Rattle.hl_rules.specs.Nodes.{Code, a_place_code, a_value_code, type_of_code, value_of_code}
@@ -21,7 +20,7 @@ use Rattle.hl_rules.specs.Parts.{Site, a_conversion, a_written_side, site}
 use Rattle.hl_rules.specs.Scopes.{Scope}
 use Rattle.hl_rules.specs.Sites.{assignment_sites, operated, prefix_sites, used}
 use Rattle.hl_rules.specs.Source.{mark_at}
-use Rattle.hl_rules.specs.Values.{Standing, a_place, assigned, is_no_operand, is_no_operand_type, may_be_written, no_place, operand_of, plain_value, prefix_type, standing_in, type_in, unclear, value_of, valued}
+use Rattle.hl_rules.specs.Values.{Standing, a_place, assigned, is_known, is_no_operand, is_no_operand_type, may_be_written, no_place, operand_of, plain_value, prefix_type, standing_in, type_in, unclear, value_of, valued}
 use Rattle.hl_rules.proofs.Becoming.{Agrees, Becomes, IsOperand, not-true, of_two-there, valued-there, with_two-there}
 use Rattle.hl_rules.proofs.BinaryForms.{IsOperated, operated-there, result_of}
 use Rattle.hl_rules.proofs.Fitting.{Fits, IsCode, IsStanding}

@@ -1,10 +1,17 @@
+pub mod ArgumentLemmas
+pub mod AtomicLemmas
 pub mod BasicLemmas
 pub mod ChangeLemmas
+pub mod EachLemmas
 pub mod FormLemmas
+pub mod IntrinsicTable
 pub mod LetterLemmas
+pub mod MethodLemmas
 pub mod NameLemmas
 pub mod NodeLemmas
 pub mod NotedLemmas
+pub mod PassedLemmas
+pub mod PassingLemmas
 pub mod ScopeLemmas
 pub mod StepLemmas
 pub mod StructLemmas

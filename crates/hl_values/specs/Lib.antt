@@ -1,4 +1,9 @@
+pub mod Arguments
+pub mod Atomics
 pub mod Basics
+pub mod Few
+pub mod Intrinsics
+pub mod Methods
 pub mod NameEntries
 pub mod NameTables
 pub mod ScopeChanges

@@ -1,9 +1,16 @@
+pub mod Arguments
 pub mod Arrays
+pub mod Atomics
+pub mod Basics
+pub mod Few
 pub mod GlobalNames
+pub mod Intrinsics
+pub mod Methods
 pub mod NameEntries
 pub mod NameTables
 pub mod ScopeChanges
 pub mod ScopeViews
+pub mod Steps
 pub mod StructEntries
 pub mod StructTables
 pub mod Views

@@ -2,6 +2,7 @@
 
 use base_core::Bytes;
 use hl_meaning::{Expr, HlType, Location};
+use sqlite_items::Boxed;
 
 /// Whether an expression is a place. A place is known by its root: whether what it holds may be written, and whether it
 /// is groupshared or in a writable structured buffer. A swizzle at its end has letters, the numbers of components.
@@ -22,8 +23,8 @@ pub enum Standing {
 #[derive(Debug, Drop)]
 pub enum Code {
     /// A place, with the index of its first token.
-    Place { at: usize, place: Location },
-    Value(Expr),
+    Place { at: usize, place: Boxed<Location> },
+    Value(Boxed<Expr>),
 }
 
 /// An expression: its type (`Void` for no value, and none where a broken rule leaves none), whether it is a place, the

@@ -1,6 +1,6 @@
 -- What changes of what is known.
-use Rattle.std.proofs.Common.{◌≡◌, ◌∙◌, refl, sym, ap, ℕ, suc, ◌+◌, List, [], ◌∷◌, ◌++◌, map, length, drop, Option, None, Some, option_map, MatchOption, option_to_list, append-nil, add-zero, zero-add, arith, Bool}
-use Rattle.std.proofs.lemmas.List.{length-map, length_push, map-append}
+use Rattle.std.proofs.Common.{◌≡◌, ◌∙◌, refl, sym, ap, ℕ, ◌+◌, List, [], ◌∷◌, ◌++◌, map, length, drop, Option, None, Some, MatchOption, option_to_list, append-nil, add-zero, zero-add, arith, Bool}
+use Rattle.std.proofs.lemmas.List.{length_push, map-append}
 use Rattle.hl_rules.specs.Scopes as plain
 use Rattle.hl_rules.specs.Scopes.{Named, a_struct_name, behind, named, spelled, with_global, with_local}
 use Rattle.hl_values.specs.declared.scope.Sort.{Sort}

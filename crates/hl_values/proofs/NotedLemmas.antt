@@ -1,12 +1,12 @@
 -- The positions that are noted for names.
-use Rattle.std.proofs.Common.{◌≡◌, ◌∙◌, refl, sym, ap, ℕ, Bool, true, false, cond, if◌then◌else◌, List, [], ◌∷◌, ◌++◌, bytes_eq, map, Option, None, Some, unwrap_or, length, Bor, append-nil, zero-add, ◌≤◌, ◌+◌, arith}
+use Rattle.std.proofs.Common.{◌≡◌, ◌∙◌, refl, sym, ap, ℕ, Bool, true, false, cond, if◌then◌else◌, List, [], ◌∷◌, ◌++◌, bytes_eq, map, Some, unwrap_or, length, Bor, append-nil, zero-add, ◌≤◌, arith}
 use Rattle.std.proofs.lemmas.List.{length-map, length_push, map-append}
 use Rattle.std.proofs.lemmas.Slice.Eq.{bytes_eq-Decides}
 use Rattle.indexmap.specs.IndexMap.{IndexMap, UpdatesBy, get_by}
 use Rattle.hl_values.specs.NameEntries.{AreNoted, entry_of, noted_for}
-use Rattle.hl_values.specs.NameTables.{is_named, positions_from}
+use Rattle.hl_values.specs.NameTables.{positions_from}
 use Rattle.hl_values.specs.declared.name_table.NameEntry.{NameEntry}
-use Rattle.hl_values.proofs.NameLemmas.{bytes_eq-sym, positions_from-push}
+use Rattle.hl_values.proofs.NameLemmas.{positions_from-push}
 
 module _ {S : Type 0} (name : List ℕ) (at : ℕ) (m n : IndexMap (Bor (List ℕ)) (List ℕ) S) (w : List ℕ)
     (updates : UpdatesBy (λ a b. bytes_eq a.now b.now) (λ key. bytes_eq name key.now) m n (Some w)) where

@@ -1,10 +1,7 @@
-use Rattle.std.proofs.Common.{rules, ◌≡◌, ◌∙◌, refl, sym, ap, subst, ℕ, ◌∷◌, ◌++◌, [], List, length, map, position, slice_get, option_map, if◌then◌else◌, bytes_eq, OnOk, OnErr, ◌+◌, ◌-◌, ◌<◌, ◌≤◌, Bool, true, false, arith}
-use Rattle.std.specs.Option.{option_copied}
-use Rattle.hl_values.specs.NameEntries.{noted_for, entry_of}
-use Rattle.hl_values.specs.NameTables.{first_named, is_named, positions_from}
+use Rattle.std.proofs.Common.{◌∙◌, ap, ◌∷◌, ◌++◌, [], if◌then◌else◌, bytes_eq}
+use Rattle.hl_values.specs.NameEntries.{noted_for}
 use Rattle.hl_values.proofs.NotedLemmas.{are_noted-push, length-within}
 use Rattle.base_core.specs.Limits.{most_parts}
-use Rattle.hl_values.proofs.NameLemmas.{bytes_eq-sym, first_named-none, first_named-some, first_position, positions_from-push}
 use Rattle.hl_values.proofs.name_table.NameTable.push.Goals as goal
 
 pub invariant_of-self-2 : goal.invariant_of-self-2

@@ -1,4 +1,4 @@
-use Rattle.std.proofs.Common.{◌≡◌, ◌∙◌, sym, ap, is_some, Some}
+use Rattle.std.proofs.Common.{◌∙◌, sym, ap, is_some, Some}
 use Rattle.hl_rules.specs.Scopes.{declared_in, innermost}
 use Rattle.hl_values.specs.NameTables.{first_named}
 use Rattle.hl_values.specs.ScopeViews.{plain_blocks, plain_sort, scope_of}

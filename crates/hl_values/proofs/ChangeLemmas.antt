@@ -1,10 +1,10 @@
 -- What changes of what is known.
-use Rattle.std.proofs.Common.{◌≡◌, ◌∙◌, refl, sym, ap, ℕ, suc, ◌+◌, List, [], ◌∷◌, ◌++◌, map, length, drop, Option, None, Some, option_map, MatchOption, option_to_list, append-nil, add-zero, zero-add, arith}
-use Rattle.std.proofs.lemmas.List.{length-map, length_push, map-append}
+use Rattle.std.proofs.Common.{◌≡◌, ◌∙◌, refl, sym, ap, ℕ, ◌+◌, List, [], ◌∷◌, ◌++◌, map, length, drop, Option, None, Some, MatchOption, option_to_list, append-nil, add-zero, zero-add, arith, Bool}
+use Rattle.std.proofs.lemmas.List.{length_push, map-append}
 use Rattle.hl_rules.specs.Scopes as plain
-use Rattle.hl_rules.specs.Scopes.{Named, a_struct_name, named, spelled, with_global, with_local}
+use Rattle.hl_rules.specs.Scopes.{Named, a_struct_name, behind, named, spelled, with_global, with_local}
 use Rattle.hl_values.specs.declared.scope.Sort.{Sort}
-use Rattle.hl_values.specs.ScopeChanges.{one_block, with_struct_named}
+use Rattle.hl_values.specs.ScopeChanges.{closed, one_block, with_struct_named}
 use Rattle.hl_values.specs.ScopeViews.{plain_blocks, plain_named, plain_names, plain_sort}
 use Rattle.hl_values.specs.StructTables.{Member, Members, plain_member, plain_struct, plain_structs, structs_behind}
 use Rattle.hl_values.proofs.ScopeLemmas.{plain_blocks-push}
@@ -52,3 +52,8 @@ declared-struct s structs new name text members number is count spells =
     ap (λ n. with_global (named text (a_struct_name n)) (record s { structs = plain_structs new })) (count ∙ sym (length-plain_structs structs)) ∙
     (ap (λ l. with_global (named text (a_struct_name (length (plain_structs structs)))) (record s { structs = l })) (ap plain_structs is ∙ plain_structs-push structs (text, members)) ∙
     ap (λ t. with_global (named t (a_struct_name (length (plain_structs structs)))) (record s { structs = plain_structs structs ++ plain_struct (plain_structs structs) (t, members) ∷ [] })) spells)
+
+-- behind a block only the number of variables is another one
+pub closed-behind : (s : plain.Scope) (block : List Named) (count : ℕ) (in_loop : Bool)
+    → closed s.in_loop (record s { blocks = block ∷ s.blocks; variables = s.variables + count; in_loop = in_loop }) ≡ behind count s
+closed-behind s block count in_loop = refl

@@ -1,19 +1,16 @@
 -- What is known of structs and declared names.
-use Rattle.std.proofs.Common.{◌≡◌, ◌∙◌, refl, sym, ap, ℕ, suc, ◌+◌, ◌-◌, ◌<◌, ◌≤◌, Bool, true, false, cond, if◌then◌else◌, not, ◌&&◌, ◌||◌, List, [], ◌∷◌, ◌++◌, length, map, take, find, position, is_some, slice_get, bytes_eq, Option, None, Some, option_map, option_and_then, option_copied, unwrap_or, Bor, get_or, nat_lt, add-one, append_assoc, append-nil, arith}
+use Rattle.std.proofs.Common.{◌≡◌, ◌∙◌, refl, sym, ap, ℕ, suc, ◌+◌, ◌-◌, Bool, true, false, cond, if◌then◌else◌, not, ◌&&◌, ◌||◌, List, [], ◌∷◌, ◌++◌, length, map, take, find, position, is_some, slice_get, bytes_eq, Option, None, Some, option_map, option_and_then, option_copied, unwrap_or, Bor, get_or, nat_lt, add-one, append_assoc, append-nil, arith}
 use Rattle.std.specs.List.{list_any, position_or_len, prefix_len}
 use Rattle.std.proofs.lemmas.List.{length-map, length_push, map-append, take_all}
 use Rattle.std.proofs.lemmas.Option.{none-some, slice_get-get_or, slice_get-map, slice_get_within}
-use Rattle.hl_meaning.specs.declared.ty.HlType.{HlType}
-use Rattle.hl_meaning.specs.Types.{Ty}
-use Rattle.hl_meaning.specs.Views.{plain_ty}
-use Rattle.hl_rules.specs.DeclarationRules.{is_function_sort, is_global}
+use Rattle.hl_rules.specs.DeclarationRules.{is_function_sort}
 use Rattle.hl_rules.specs.Scopes as plain
 use Rattle.hl_rules.specs.Scopes.{declared_in, innermost}
-use Rattle.hl_rules.specs.Values.{member_number, member_type, members_of}
+use Rattle.hl_rules.specs.Values.{member_number}
 use Rattle.hl_values.specs.declared.scope.Sort.{Sort}
-use Rattle.hl_values.specs.GlobalNames.{any_other, is_other_at, is_other_entry}
+use Rattle.hl_values.specs.GlobalNames.{any_other, is_other_entry}
 use Rattle.hl_values.specs.NameTables.{first_named, is_named, positions_from}
-use Rattle.hl_values.specs.ScopeViews.{plain_blocks, plain_named, plain_names, plain_sort, plain_sort_if}
+use Rattle.hl_values.specs.ScopeViews.{plain_blocks, plain_names, plain_sort, plain_sort_if}
 use Rattle.hl_values.specs.StructTables.{Member, Members, plain_member, plain_struct, plain_structs, structs_behind}
 use Rattle.hl_values.specs.Views.{plain_type_if}
 use Rattle.hl_values.proofs.NameLemmas.{first_position}

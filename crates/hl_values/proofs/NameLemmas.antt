@@ -1,5 +1,5 @@
 -- Names in order, and where each of them stands.
-use Rattle.std.proofs.Common.{◌≡◌, ◌∙◌, refl, sym, ap, subst, ℕ, suc, ◌+◌, Bool, true, false, cond, not, if◌then◌else◌, List, [], ◌∷◌, ◌++◌, length, map, find, position, slice_get, bytes_eq, Option, None, Some, option_map, nat_lt, ◌<◌, ◌≤◌, ◌⊎◌, inl, inr, add-zero, zero-add, add-suc, suc-add, true≢false, arith}
+use Rattle.std.proofs.Common.{◌≡◌, ◌∙◌, refl, sym, ap, ℕ, suc, ◌+◌, Bool, true, false, cond, not, if◌then◌else◌, List, [], ◌∷◌, ◌++◌, length, position, slice_get, bytes_eq, Option, None, Some, option_map, nat_lt, ◌<◌, ◌≤◌, ◌⊎◌, inl, inr, add-zero, zero-add, add-suc, suc-add, true≢false, arith}
 use Rattle.std.proofs.lemmas.Bool.{cases_lt, lt-ltb, le-ltb}
 use Rattle.std.specs.List.{position_or_len}
 use Rattle.std.proofs.lemmas.List.Folds.{find_at}

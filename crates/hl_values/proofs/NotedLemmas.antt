@@ -1,12 +1,12 @@
 -- The positions that are noted for names.
-use Rattle.std.proofs.Common.{◌≡◌, ◌∙◌, refl, sym, ap, ℕ, Bool, true, false, cond, if◌then◌else◌, List, [], ◌∷◌, ◌++◌, bytes_eq, map, Option, None, Some, unwrap_or, length, Bor, append-nil, zero-add}
-use Rattle.std.proofs.lemmas.List.{length-map, map-append}
+use Rattle.std.proofs.Common.{◌≡◌, ◌∙◌, refl, sym, ap, ℕ, Bool, true, false, cond, if◌then◌else◌, List, [], ◌∷◌, ◌++◌, bytes_eq, map, Some, unwrap_or, length, Bor, append-nil, zero-add, ◌≤◌, arith}
+use Rattle.std.proofs.lemmas.List.{length-map, length_push, map-append}
 use Rattle.std.proofs.lemmas.Slice.Eq.{bytes_eq-Decides}
 use Rattle.indexmap.specs.IndexMap.{IndexMap, UpdatesBy, get_by}
 use Rattle.hl_values.specs.NameEntries.{AreNoted, entry_of, noted_for}
-use Rattle.hl_values.specs.NameTables.{is_named, positions_from}
+use Rattle.hl_values.specs.NameTables.{positions_from}
 use Rattle.hl_values.specs.declared.name_table.NameEntry.{NameEntry}
-use Rattle.hl_values.proofs.NameLemmas.{bytes_eq-sym, positions_from-push}
+use Rattle.hl_values.proofs.NameLemmas.{positions_from-push}
 
 module _ {S : Type 0} (name : List ℕ) (at : ℕ) (m n : IndexMap (Bor (List ℕ)) (List ℕ) S) (w : List ℕ)
     (updates : UpdatesBy (λ a b. bytes_eq a.now b.now) (λ key. bytes_eq name key.now) m n (Some w)) where
@@ -45,3 +45,7 @@ are_noted-push entries m n e noted push other =
     (ap (λ k. positions_from 0 other (map entry_of entries) ++ (if bytes_eq e.name.now other then k ∷ [] else [])) (sym (zero-add (length (map entry_of entries)) ∙ length-map entries entry_of)) ∙
     (sym (positions_from-push other 0 (map entry_of entries) (entry_of e)) ∙
     ap (λ l. positions_from 0 other l) (sym (map-append entry_of entries (e ∷ []))))))
+
+-- one more part fits where the greatest length isn't reached
+pub length-within : {A : Type 0} (before after : List A) (x : A) (n limit : ℕ) → after ≡ before ++ x ∷ [] → n ≡ length before → length before ≤ limit → (n ≡ limit → ⊥) → length after ≤ limit
+length-within before after x n limit is count within apart = omega (arith, ap length is, length_push before x)

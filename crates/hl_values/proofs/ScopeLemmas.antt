@@ -1,18 +1,18 @@
 -- What is known at a place.
-use Rattle.std.proofs.Common.{◌≡◌, ◌∙◌, refl, sym, ap, ℕ, zero, suc, ◌+◌, Bool, true, false, cond, if◌then◌else◌, suc-add, arith, ◌<◌, ◌≤◌, ◌-◌, get_or, ◌||◌, List, [], ◌∷◌, ◌++◌, map, reverse, take, length, find, position, is_some, slice_get, bytes_eq, Option, None, Some, option_map}
+use Rattle.std.proofs.Common.{◌≡◌, ◌∙◌, refl, ap, ℕ, zero, suc, ◌+◌, Bool, true, false, cond, if◌then◌else◌, suc-add, arith, ◌<◌, ◌≤◌, ◌-◌, get_or, ◌||◌, List, [], ◌∷◌, ◌++◌, map, reverse, take, length, find, position, is_some, slice_get, bytes_eq, Option, Some, option_map}
 use Rattle.std.specs.List.{list_any}
 use Rattle.std.specs.Option.{option_or}
 use Rattle.std.proofs.lemmas.List.{reverse-append, map-append}
 use Rattle.std.proofs.lemmas.Option.{slice_get-map, slice_get_read}
 use Rattle.hl_lexer.specs.declared.token.Token.{Token}
-use Rattle.hl_lexer.specs.Tokens.{Lexeme, lexeme_of}
+use Rattle.hl_lexer.specs.Tokens.{lexeme_of}
 use Rattle.hl_rules.specs.Scopes as plain
 use Rattle.hl_rules.specs.Scopes.{declared_among, declared_in}
 use Rattle.hl_values.specs.declared.scope.FunctionInfo.{FunctionInfo}
 use Rattle.hl_values.specs.declared.scope.Sort.{Sort}
 use Rattle.hl_values.specs.NameTables.{first_named, is_named, positions_from}
 use Rattle.hl_values.proofs.NameLemmas.{first_position}
-use Rattle.hl_values.specs.ScopeViews.{plain_blocks, plain_function, plain_named, plain_names, plain_sort, plain_sort_if}
+use Rattle.hl_values.specs.ScopeViews.{plain_blocks, plain_function, plain_named, plain_names, plain_sort_if}
 
 -- what a name stands for among names
 pub declared-first : (names : List (List ℕ × Sort)) (name : List ℕ) → declared_in (plain_names names) name ≡ plain_sort_if (first_named names name)

@@ -1,5 +1,5 @@
 -- How many words types have, as it is held.
-use Rattle.std.proofs.Common.{◌≡◌, ◌∙◌, refl, sym, ap, ℕ, zero, suc, ◌+◌, ◌*◌, ◌^◌, ◌<◌, List, [], ◌∷◌, map, drop, slice_get, Option, None, Some, option_map, option_and_then, nat_lt, if◌then◌else◌, suc-add}
+use Rattle.std.proofs.Common.{◌≡◌, ◌∙◌, refl, sym, ap, ℕ, zero, suc, ◌+◌, ◌*◌, ◌^◌, ◌<◌, List, [], ◌∷◌, map, drop, slice_get, Option, None, Some, option_map, option_and_then, if◌then◌else◌, suc-add}
 use Rattle.std.proofs.lemmas.Bool.{lt-ltb}
 use Rattle.hl_meaning.specs.declared.ty.HlType.{HlType}
 use Rattle.hl_rules.specs.Scopes.{StructInfo, members_words, words_if}

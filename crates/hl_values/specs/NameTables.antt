@@ -1,5 +1,5 @@
 -- Names in order, each with what it stands for.
-use Rattle.std.specs.Prelude.{ℕ, suc, List, [], ◌∷◌, Bool, Option, if◌then◌else◌, find, position, option_map, bytes_eq}
+use Rattle.std.specs.Prelude.{ℕ, suc, List, [], ◌∷◌, Bool, Option, if◌then◌else◌, find, option_map, bytes_eq}
 
 -- whether the name of an entry is this one
 abbrev pub is_named : {T : Type 0} → List ℕ → List ℕ × T → Bool

@@ -1,11 +1,11 @@
 -- What declarations, blocks and functions change of what is known.
-use Rattle.std.specs.Prelude.{ℕ, suc, ◌+◌, List, [], ◌∷◌, ◌++◌, Bool, true, false, Option, None, Some, map, length, drop, unwrap_or}
+use Rattle.std.specs.Prelude.{ℕ, suc, List, [], ◌∷◌, ◌++◌, Bool, true, false, Option, None, Some, map, length, drop, unwrap_or}
 use Rattle.hl_meaning.specs.Programs.{Constant, Variable}
 use Rattle.hl_meaning.specs.Types.{Ty, void_type}
 use Rattle.hl_meaning.specs.Trees.{constant_root, shared_root}
 use Rattle.hl_meaning.specs.Views.{plain_constant, plain_variable}
 use Rattle.hl_rules.specs.Declarations.{variable}
-use Rattle.hl_rules.specs.Scopes.{BufferInfo, FunctionInfo, MemberInfo, ParamInfo, Scope, a_buffer_name, a_function_name, a_struct_name, members_words, named, spelled, with_global}
+use Rattle.hl_rules.specs.Scopes.{BufferInfo, MemberInfo, ParamInfo, Scope, a_buffer_name, a_function_name, a_struct_name, members_words, named, spelled, with_global}
 use Rattle.hl_values.specs.declared.scope.Scope.{Scope as HeldScope}
 
 -- behind a block

@@ -1,5 +1,5 @@
 -- What is known at a place, as plain data.
-use Rattle.std.specs.Prelude.{ℕ, List, [], ◌∷◌, Option, map, length, reverse, option_map}
+use Rattle.std.specs.Prelude.{ℕ, List, Option, map, length, reverse, option_map}
 use Rattle.hl_lexer.specs.Tokens.{lexeme_of}
 use Rattle.hl_meaning.specs.Trees.{Root, constant_root, shared_root, variable_root}
 use Rattle.hl_values.specs.declared.scope.BufferInfo.{BufferInfo}

@@ -1,5 +1,5 @@
 -- How structs are held.
-use Rattle.std.specs.Prelude.{◌≡◌, ℕ, List, Option, map, option_map}
+use Rattle.std.specs.Prelude.{◌≡◌, List, map, option_map}
 use Rattle.hl_values.specs.declared.structs.StructInfo.{StructInfo}
 use Rattle.hl_values.specs.StructTables.{Members, plain_structs}
 use Rattle.hl_values.specs.WordCounts.{counted}

@@ -1,9 +1,7 @@
 -- The structs that are declared so far.
-use Rattle.std.specs.Prelude.{◌≡◌, ℕ, List, [], ◌∷◌, ◌++◌, Option, map, option_map}
+use Rattle.std.specs.Prelude.{ℕ, List, [], ◌∷◌, ◌++◌, Option, map}
 use Rattle.hl_meaning.specs.declared.ty.HlType.{HlType}
-use Rattle.hl_values.specs.declared.words.WordCount.{WordCount}
 use Rattle.hl_values.specs.Views.{plain_type_if}
-use Rattle.hl_values.specs.WordCounts.{counted}
 use Rattle.hl_rules.specs.Scopes.{MemberInfo, StructInfo, members_words}
 
 -- a member: its name and its type, where it has one

@@ -1,7 +1,8 @@
 //! Names in order, each with what it stands for.
 
-ghost use Rattle.std.specs.Prelude.{◌≡◌, ℕ, ◌∷◌, ◌++◌, [], List, length, map, position, slice_get, option_map, if◌then◌else◌, bytes_eq, OnOk, OnErr};
+ghost use Rattle.std.specs.Prelude.{◌≡◌, ℕ, ◌∷◌, ◌++◌, [], List, length, map, position, slice_get, option_map, if◌then◌else◌, bytes_eq, OnOk, OnErr, ◌≤◌};
 ghost use Rattle.std.specs.Option.{option_copied};
+ghost use Rattle.base_core.specs.Limits.{most_parts};
 ghost use Rattle.hl_values.specs.NameEntries.{noted_for};
 ghost use Rattle.hl_values.specs.NameTables.{first_named, is_named, positions_from};
 
@@ -10,6 +11,9 @@ use indexmap::IndexMap;
 use std::alloc::Global;
 use std::marker::Model;
 
+/// The greatest number of entries of a table.
+const MOST_ENTRIES: usize = 2147483647;
+
 /// A name, and what it stands for.
 #[derive(Drop)]
 struct NameEntry<'a, T> {
@@ -17,7 +21,7 @@ struct NameEntry<'a, T> {
     value: T,
 }
 
-/// Names in order, each with what it stands for. A name may have several entries.
+/// At most 2147483647 names in order, each with what it stands for. A name may have several entries.
 ///
 /// What a name stands for is found without going through the others.
 #[derive(Drop)]
@@ -34,11 +38,11 @@ impl<'a, T> Model for NameTable<'a, T> {
 
     ghost coded = { coded_list (coded× (coded_list coded_ℕ) T.code) };
 
-    ghost use Rattle.hl_values.specs.NameEntries.{AreNoted, entry_of};
+    ghost use Rattle.hl_values.specs.NameEntries.{IsTable, entry_of};
 
     ghost view = { λ t. map entry_of t.entries.items };
 
-    ghost invariant = { λ t. AreNoted t.entries.items t.positions };
+    ghost invariant = { λ t. IsTable t.entries.items t.positions };
 }
 
 /// Notes a further position of a name.
@@ -78,7 +82,8 @@ impl<'a, T> NameTable<'a, T> {
 
     /// The number of entries.
     pub fn len(&self) -> usize
-        ensures { result ≡ length self.now }
+        ensures value { result ≡ length self.now }
+        ensures limit { result ≤ most_parts }
     {
         self.entries.len()
     }
@@ -129,11 +134,14 @@ impl<'a, T: Drop> NameTable<'a, T> {
     /// Adds an entry at the end.
     ///
     /// # Errors
-    /// `NoMemory` leaves the table as it was.
+    /// `NoMemory` where memory is refused or the table has its greatest length; the table stays as it was.
     pub fn push(&mut self, name: &'a [u8], value: T) -> Result<(), NoMemory>
         ensures ok { OnOk result (self.new ≡ self.old ++ (name.now, value) ∷ []) }
         ensures err { OnErr result (self.new ≡ self.old) }
     {
+        if self.entries.len() == MOST_ENTRIES {
+            return Err(NoMemory);
+        }
         self.entries.reserve(1)?;
         let alloc = *self.positions.allocator();
         note_position(&mut self.positions, alloc, name, self.entries.len())?;

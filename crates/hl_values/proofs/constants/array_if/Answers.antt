@@ -1,4 +1,4 @@
-use Rattle.std.proofs.Common.{◌≡◌, ◌∙◌, sym, ap, Some, option_map}
+use Rattle.std.proofs.Common.{◌∙◌, sym, ap, Some, option_map}
 use Rattle.hl_meaning.specs.Types.{array_type}
 use Rattle.hl_values.specs.Views.{plain_type_if}
 use Rattle.hl_meaning.specs.Views.{plain_ty}

@@ -1,4 +1,4 @@
-use Rattle.std.proofs.Common.{◌≡◌, ◌∙◌, sym, ap, Some}
+use Rattle.std.proofs.Common.{◌∙◌, sym, ap, Some}
 use Rattle.hl_meaning.proofs.Plain.{plain_ty-Struct}
 use Rattle.hl_rules.specs.Constants.{struct_of_sort}
 use Rattle.hl_values.specs.ScopeViews.{plain_sort}

@@ -1,4 +1,4 @@
-use Rattle.std.proofs.Common.{◌≡◌, ◌∙◌, sym, ap}
+use Rattle.std.proofs.Common.{◌∙◌, sym, ap}
 use Rattle.hl_meaning.proofs.Plain.{plain_ty-Void, plain_ty-Scalar, plain_ty-Vector}
 use Rattle.hl_rules.specs.Constants.{word_type}
 use Rattle.hl_values.proofs.ConstantLemmas.{word_type-other}

@@ -1,4 +1,4 @@
-use Rattle.std.proofs.Common.{◌≡◌, ◌∙◌, sym, ap}
+use Rattle.std.proofs.Common.{◌∙◌, sym, ap}
 use Rattle.std.specs.Option.{unwrap_or}
 use Rattle.hl_meaning.specs.Types.{void_type}
 use Rattle.hl_values.specs.Views.{plain_type_if}

@@ -1,4 +1,4 @@
-use Rattle.std.proofs.Common.{◌≡◌, ◌∙◌, sym, ap, ◌-◌, take, arith}
+use Rattle.std.proofs.Common.{◌∙◌, sym, ap, ◌-◌, take, arith}
 use Rattle.std.specs.Option.{option_or}
 use Rattle.hl_rules.specs.Scopes.{declared_among}
 use Rattle.hl_values.specs.ScopeViews.{plain_blocks, plain_sort_if}

@@ -1,11 +1,8 @@
-use Rattle.std.proofs.Common.{rules, ◌≡◌, ◌∙◌, refl, sym, ap, subst, ℕ, ◌∷◌, ◌++◌, [], List, length, map, position, slice_get, option_map, if◌then◌else◌, bytes_eq, OnOk, OnErr, ◌+◌, ◌-◌, ◌<◌, ◌≤◌, Bool, true, false, arith}
-use Rattle.std.specs.Option.{option_copied}
-use Rattle.hl_values.specs.NameEntries.{noted_for, entry_of}
-use Rattle.hl_values.specs.NameTables.{first_named, is_named, positions_from}
+use Rattle.std.proofs.Common.{rules, ◌∙◌, sym, ap, ◌∷◌, ◌++◌, [], if◌then◌else◌, bytes_eq}
+use Rattle.hl_values.specs.NameEntries.{noted_for}
 use Rattle.std.specs.Option.{unwrap_or}
 use Rattle.std.proofs.lemmas.Result.{on_ok_weaker, on_err_weaker}
-use Rattle.hl_values.proofs.NotedLemmas.{are_noted-push, noted-push, noted-same}
-use Rattle.hl_values.proofs.NameLemmas.{bytes_eq-sym, first_named-none, first_named-some, first_position, positions_from-push}
+use Rattle.hl_values.proofs.NotedLemmas.{noted-push, noted-same}
 use Rattle.hl_values.proofs.name_table.note_position.Goals as goal
 
 pub returns-in-Some-clause-ok : goal.returns-in-Some-clause-ok

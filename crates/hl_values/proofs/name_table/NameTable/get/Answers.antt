@@ -1,8 +1,6 @@
-use Rattle.std.proofs.Common.{rules, ◌≡◌, ◌∙◌, refl, sym, ap, subst, ℕ, ◌∷◌, ◌++◌, [], List, length, map, position, slice_get, option_map, if◌then◌else◌, bytes_eq, OnOk, OnErr, ◌+◌, ◌-◌, ◌<◌, ◌≤◌, Bool, true, false, arith}
+use Rattle.std.proofs.Common.{◌∙◌, sym, ap}
 use Rattle.std.specs.Option.{option_copied}
-use Rattle.hl_values.specs.NameEntries.{noted_for, entry_of}
-use Rattle.hl_values.specs.NameTables.{first_named, is_named, positions_from}
-use Rattle.hl_values.proofs.NameLemmas.{bytes_eq-sym, first_named-none, first_named-some, first_position, positions_from-push}
+use Rattle.hl_values.proofs.NameLemmas.{first_named-none, first_named-some}
 use Rattle.hl_values.proofs.name_table.NameTable.get.Goals as goal
 
 pub returns-in_err-at : goal.returns-in_err-at

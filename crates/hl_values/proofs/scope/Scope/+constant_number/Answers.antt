@@ -1,4 +1,4 @@
-use Rattle.std.proofs.Common.{◌≡◌, ◌∙◌, sym, ap, None}
+use Rattle.std.proofs.Common.{◌∙◌, sym, ap, None}
 use Rattle.hl_parser.specs.Trees.{a_primary}
 use Rattle.hl_parser.specs.Views.{plain_maybe, plain_of}
 use Rattle.hl_parser.proofs.Plain.{plain-Primary, plain-Or, plain-And, plain-Bitor, plain-Bitxor, plain-Bitand, plain-Equal, plain-Less, plain-Shift, plain-Sum, plain-Product}

@@ -1,4 +1,4 @@
-use Rattle.std.proofs.Common.{◌≡◌, ◌∙◌, sym, ap}
+use Rattle.std.proofs.Common.{◌∙◌}
 use Rattle.std.proofs.lemmas.Result.{on_ok_weaker}
 use Rattle.hl_values.specs.ScopeViews.{scope_of}
 use Rattle.hl_values.proofs.ChangeLemmas.{declared-struct}

@@ -1,4 +1,4 @@
-use Rattle.std.proofs.Common.{◌≡◌, ◌∙◌, sym, ap, is_some}
+use Rattle.std.proofs.Common.{◌∙◌, sym, ap, is_some}
 use Rattle.hl_values.specs.ScopeViews.{scope_of}
 use Rattle.hl_values.proofs.ScopeLemmas.{function-named}
 use Rattle.hl_values.proofs.scope.Scope.is_function.Goals as goal

@@ -1,7 +1,5 @@
-use Rattle.std.proofs.Common.{◌≡◌, ◌∙◌, sym, ap, is_some, position, ◌&&◌, true, bytes_eq}
+use Rattle.std.proofs.Common.{◌∙◌, sym, ap, is_some, ◌&&◌, true, bytes_eq}
 use Rattle.std.specs.List.{list_any}
-use Rattle.hl_rules.specs.Scopes.{spelled}
-use Rattle.hl_values.specs.NameTables.{is_named}
 use Rattle.hl_values.specs.ScopeViews.{plain_names, scope_of}
 use Rattle.hl_values.proofs.KnownLemmas.{global-named}
 use Rattle.hl_values.proofs.scope.Scope.is_global.Goals as goal

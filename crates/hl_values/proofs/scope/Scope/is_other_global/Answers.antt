@@ -1,4 +1,4 @@
-use Rattle.std.proofs.Common.{◌≡◌, ◌∙◌, sym, ap, not, ◌&&◌, bytes_eq}
+use Rattle.std.proofs.Common.{◌∙◌, sym, ap, not, ◌&&◌, bytes_eq}
 use Rattle.std.specs.List.{list_any}
 use Rattle.hl_rules.specs.DeclarationRules.{is_function_sort}
 use Rattle.hl_values.specs.ScopeViews.{plain_names, scope_of}

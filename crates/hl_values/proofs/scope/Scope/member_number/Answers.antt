@@ -1,4 +1,4 @@
-use Rattle.std.proofs.Common.{◌≡◌, ◌∙◌, sym, ap, None, Some}
+use Rattle.std.proofs.Common.{◌∙◌, sym, ap, None, Some}
 use Rattle.hl_rules.specs.Values.{member_number}
 use Rattle.hl_values.specs.ScopeViews.{scope_of}
 use Rattle.hl_values.proofs.KnownLemmas.{member-number, members-known}

@@ -1,4 +1,4 @@
-use Rattle.std.proofs.Common.{◌≡◌, ◌∙◌, sym, ap, None, Some, option_map, option_and_then, find, bytes_eq}
+use Rattle.std.proofs.Common.{◌∙◌, sym, ap, None, Some, option_map, option_and_then, find, bytes_eq}
 use Rattle.std.specs.Option.{option_copied}
 use Rattle.hl_meaning.specs.Views.{plain_ty}
 use Rattle.hl_values.specs.ScopeViews.{scope_of}

@@ -1,9 +1,9 @@
-use Rattle.std.proofs.Common.{◌≡◌, ◌∙◌, sym, ap, Some}
+use Rattle.std.proofs.Common.{◌∙◌, sym, ap, Some}
 use Rattle.hl_parser.specs.Trees.{a_type}
 use Rattle.hl_parser.specs.Views.{plain_maybe, plain_of}
 use Rattle.hl_parser.proofs.Plain.{plain-Type}
 use Rattle.hl_rules.specs.Constants.{named_type, basic_type, struct_of_sort}
-use Rattle.hl_values.specs.ScopeViews.{plain_sort_if, scope_of}
+use Rattle.hl_values.specs.ScopeViews.{scope_of}
 use Rattle.hl_values.proofs.ConstantLemmas.{named_type-other}
 use Rattle.hl_values.proofs.scope.Scope.named_type.Goals as goal
 

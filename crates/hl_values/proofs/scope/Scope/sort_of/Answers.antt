@@ -1,4 +1,4 @@
-use Rattle.std.proofs.Common.{◌≡◌, ◌∙◌, sym, ap}
+use Rattle.std.proofs.Common.{◌∙◌, sym, ap}
 use Rattle.hl_rules.specs.Scopes.{declared_among, declared_in}
 use Rattle.hl_values.specs.ScopeViews.{plain_blocks, plain_names, plain_sort_if, scope_of}
 use Rattle.hl_values.proofs.ScopeLemmas.{declared-first}

@@ -1,5 +1,4 @@
-use Rattle.std.proofs.Common.{◌≡◌, ◌∙◌, sym, ap, Option, option_map, ◌<◌, ◌^◌, ℕ, ◌*◌, arith, rules, Some}
-use Rattle.hl_meaning.specs.Types.{Ty}
+use Rattle.std.proofs.Common.{◌∙◌, sym, ap, option_map, ◌<◌, ◌*◌, arith, rules, Some}
 use Rattle.hl_meaning.specs.Views.{plain_ty}
 use Rattle.hl_meaning.proofs.Plain.{plain_ty-Void, plain_ty-Scalar, plain_ty-Vector, plain_ty-Array, plain_ty-Struct}
 use Rattle.hl_rules.specs.Scopes.{type_words}

@@ -1,4 +1,4 @@
-use Rattle.std.proofs.Common.{◌≡◌, ◌∙◌, sym, ap, option_map, map}
+use Rattle.std.proofs.Common.{◌∙◌, sym, ap, option_map, map}
 use Rattle.hl_rules.specs.Scopes.{members_words}
 use Rattle.hl_values.specs.StructTables.{plain_member, plain_structs}
 use Rattle.hl_values.specs.WordCounts.{counted}

@@ -1,4 +1,4 @@
-use Rattle.std.proofs.Common.{◌≡◌, ◌∙◌, ap, option_map, option_and_then, slice_get}
+use Rattle.std.proofs.Common.{◌∙◌, ap, option_map, option_and_then, slice_get}
 use Rattle.hl_values.specs.StructTables.{plain_structs}
 use Rattle.hl_values.specs.WordCounts.{counted}
 use Rattle.hl_values.proofs.StructLemmas.{words-at}

@@ -1,4 +1,4 @@
-use Rattle.std.proofs.Common.{◌≡◌, ◌∙◌, sym, ap, Option, option_map, map, drop, ◌+◌}
+use Rattle.std.proofs.Common.{◌∙◌, sym, ap, option_map, map, drop, ◌+◌}
 use Rattle.hl_rules.specs.Scopes.{members_words, words_if}
 use Rattle.hl_values.specs.StructTables.{plain_member, plain_structs}
 use Rattle.hl_values.specs.Views.{plain_type_if}

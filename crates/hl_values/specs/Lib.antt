@@ -1,6 +1,7 @@
 pub mod Arguments
 pub mod Atomics
 pub mod Basics
+pub mod Calls
 pub mod Few
 pub mod Intrinsics
 pub mod Methods

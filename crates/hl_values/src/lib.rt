@@ -2,6 +2,7 @@
 #![tactic(auto)]
 
 mod basic;
+mod calls;
 mod declare;
 mod few;
 mod forms;

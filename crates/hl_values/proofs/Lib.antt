@@ -1,6 +1,7 @@
 pub mod ArgumentLemmas
 pub mod AtomicLemmas
 pub mod BasicLemmas
+pub mod CallLemmas
 pub mod ChangeLemmas
 pub mod ConstantLemmas
 pub mod EachLemmas

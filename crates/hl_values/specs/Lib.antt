@@ -2,6 +2,7 @@ pub mod Arguments
 pub mod Arrays
 pub mod Atomics
 pub mod Basics
+pub mod Calls
 pub mod Few
 pub mod GlobalNames
 pub mod Intrinsics

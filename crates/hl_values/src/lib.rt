@@ -2,6 +2,7 @@
 #![tactic(auto)]
 
 mod basic;
+mod calls;
 mod constants;
 mod declare;
 mod few;

@@ -1,9 +1,11 @@
 pub mod BasicLemmas
 pub mod ChangeLemmas
 pub mod FormLemmas
+pub mod KnownLemmas
 pub mod LetterLemmas
 pub mod NameLemmas
 pub mod NodeLemmas
+pub mod NoteLemmas
 pub mod NotedLemmas
 pub mod ScopeLemmas
 pub mod StepLemmas

@@ -1,10 +1,13 @@
 pub mod Basics
+pub mod Known
 pub mod NameEntries
 pub mod NameTables
+pub mod Noted
 pub mod ScopeChanges
 pub mod ScopeViews
 pub mod Steps
 pub mod StructEntries
 pub mod StructTables
+pub mod TypedViews
 pub mod Views
 pub mod WordCounts

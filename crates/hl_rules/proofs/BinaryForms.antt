@@ -174,12 +174,15 @@ binary-becomes s production at op left right marked h k stands_l stands_r = give
       type = o.gives;
       agrees = tt;
       fits = λ env fits.
-          let short : IsShort ty = o.short (operand-short env (value_of_code left) h (stands_l env fits)) (operand-short env (value_of_code right) k (stands_r env fits)) in
-          (short-result env.structs (result_of production ty) (result-short production ty short),
-          (l.stands env (stands_l env fits) (short-result env.structs ty short),
-          r.stands env (stands_r env fits) (short-result env.structs ty short),
-          l.type ∙ sym r.type,
-          ap (λ x. binary_type op x) l.type ∙ operator-gives production op ty marked o.joins o.numbers));
+          let short : IsShort ty = o.short (operand-short env (value_of_code left) h (stands_l env fits)) (operand-short env (value_of_code right) k (stands_r env fits)) in (
+            short-result env.structs (result_of production ty) (result-short production ty short),
+            (
+              l.stands env (stands_l env fits) (short-result env.structs ty short),
+              r.stands env (stands_r env fits) (short-result env.structs ty short),
+              l.type ∙ sym r.type,
+              ap (λ x. binary_type op x) l.type ∙ operator-gives production op ty marked o.joins o.numbers,
+            ),
+          );
     }
 
     given : OperatedOf production (type_of_code left) (type_of_code right) → Becomes s (plain_value (operator_type production (type_of_code left) (type_of_code right))) (binary_code production at op left right)

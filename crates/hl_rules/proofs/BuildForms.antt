@@ -48,7 +48,7 @@ kind_eq-refl BoolKind = refl
 kind_eq-refl IntKind = refl
 kind_eq-refl UintKind = refl
 
-kind-is : (kind : Kind) (ty : Ty) → is_basic ty ≡ true → is_of kind (with_kind kind ty) ≡ true
+pub kind-is : (kind : Kind) (ty : Ty) → is_basic ty ≡ true → is_of kind (with_kind kind ty) ≡ true
 kind-is kind (scalar_type k) e = kind_eq-refl kind
 kind-is kind (vector_type k size) e = kind_eq-refl kind
 kind-is kind void_type e = absurd (cc e)
@@ -97,9 +97,10 @@ parts-built s kind (v ∷ values) (code ∷ codes) h k =
       to = more_exprs c.to d.to;
       is = built-more kind codes code c.to d.to c.is d.is;
       types = ap (λ t. t ∷ types_of d.to) c.type ∙ ap (λ ts. with_kind kind (type_of_code code) ∷ ts) d.types;
-      stands = λ env f.
-          (c.stands env (argument-stands s v code h.0 env f) (kind-type s kind (value_of_code code) k.0 (argument-stands s v code h.0) env f),
-          d.stands env f);
+      stands = λ env f. (
+        c.stands env (argument-stands s v code h.0 env f) (kind-type s kind (value_of_code code) k.0 (argument-stands s v code h.0) env f),
+        d.stands env f,
+      );
     }
 
 -- ---- constructors
@@ -133,7 +134,8 @@ constructor-becomes s at ty values codes short h e = given (parts-built s (kind_
       is = constructor-made at ty codes b.to b.is;
       type = refl;
       agrees = tt;
-      fits = λ env f.
-          (short-result env.structs ty short,
-          (b.stands env f, subst (λ ts. Builds env.structs ty ts) (sym b.types) (builds env.structs ty codes short basic counted)));
+      fits = λ env f. (
+        short-result env.structs ty short,
+        (b.stands env f, subst (λ ts. Builds env.structs ty ts) (sym b.types) (builds env.structs ty codes short basic counted)),
+      );
     }

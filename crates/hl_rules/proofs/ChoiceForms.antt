@@ -52,7 +52,9 @@ choice-ssv : (a b c : Kind) (p : ℕ) → ChosenOf (scalar_type a) (scalar_type 
 choice-ssv a b c p = (
   vector_type (branch_kind b c) p,
   record {
-    chosen = refl; basic = refl; short = λ e h k. k;
+    chosen = refl;
+    basic = refl;
+    short = λ e h k. k;
     condition = refl;
     consequent = refl;
     alternative = cut-converts c (branch_kind b c) p p (omega arith);
@@ -63,7 +65,9 @@ choice-svs : (a b c : Kind) (m : ℕ) → ChosenOf (scalar_type a) (vector_type 
 choice-svs a b c m = (
   vector_type (branch_kind b c) m,
   record {
-    chosen = refl; basic = refl; short = λ e h k. h;
+    chosen = refl;
+    basic = refl;
+    short = λ e h k. h;
     condition = refl;
     consequent = cut-converts b (branch_kind b c) m m (omega arith);
     alternative = refl;
@@ -74,7 +78,9 @@ choice-svv : (a b c : Kind) (m p : ℕ) → ChosenOf (scalar_type a) (vector_typ
 choice-svv a b c m p = (
   vector_type (branch_kind b c) (min m p),
   record {
-    chosen = refl; basic = refl; short = λ e h k. min-short m p h k;
+    chosen = refl;
+    basic = refl;
+    short = λ e h k. min-short m p h k;
     condition = refl;
     consequent = cut-converts b (branch_kind b c) m (min m p) (omega arith);
     alternative = cut-converts c (branch_kind b c) p (min m p) (omega arith);
@@ -85,7 +91,9 @@ choice-vss : (a b c : Kind) (q : ℕ) → ChosenOf (vector_type a q) (scalar_typ
 choice-vss a b c q = (
   vector_type (branch_kind b c) q,
   record {
-    chosen = refl; basic = refl; short = λ e h k. e;
+    chosen = refl;
+    basic = refl;
+    short = λ e h k. e;
     condition = cut-converts a BoolKind q q (omega arith);
     consequent = refl;
     alternative = refl;
@@ -96,7 +104,9 @@ choice-vsv : (a b c : Kind) (q p : ℕ) → ChosenOf (vector_type a q) (scalar_t
 choice-vsv a b c q p = (
   vector_type (branch_kind b c) (min q p),
   record {
-    chosen = refl; basic = refl; short = λ e h k. min-short q p e k;
+    chosen = refl;
+    basic = refl;
+    short = λ e h k. min-short q p e k;
     condition = cut-converts a BoolKind q (min q p) (omega arith);
     consequent = refl;
     alternative = cut-converts c (branch_kind b c) p (min q p) (omega arith);
@@ -107,7 +117,9 @@ choice-vvs : (a b c : Kind) (q m : ℕ) → ChosenOf (vector_type a q) (vector_t
 choice-vvs a b c q m = (
   vector_type (branch_kind b c) (min q m),
   record {
-    chosen = refl; basic = refl; short = λ e h k. min-short q m e h;
+    chosen = refl;
+    basic = refl;
+    short = λ e h k. min-short q m e h;
     condition = cut-converts a BoolKind q (min q m) (omega arith);
     consequent = cut-converts b (branch_kind b c) m (min q m) (omega arith);
     alternative = refl;
@@ -118,7 +130,9 @@ choice-vvv : (a b c : Kind) (q m p : ℕ) → ChosenOf (vector_type a q) (vector
 choice-vvv a b c q m p = (
   vector_type (branch_kind b c) (min q (min m p)),
   record {
-    chosen = refl; basic = refl; short = λ e h k. min-short q (min m p) e (min-short m p h k);
+    chosen = refl;
+    basic = refl;
+    short = λ e h k. min-short q (min m p) e (min-short m p h k);
     condition = cut-converts a BoolKind q (min q (min m p)) (omega arith);
     consequent = cut-converts b (branch_kind b c) m (min q (min m p)) (omega arith);
     alternative = cut-converts c (branch_kind b c) p (min q (min m p)) (omega arith);
@@ -147,15 +161,18 @@ choice-becomes s at c y n e h k stands_c stands_y stands_n =
       type = o.chosen;
       agrees = tt;
       fits = λ env fits.
-          let short : IsShort ty = o.short (operand-short env (value_of_code c) e (stands_c env fits)) (operand-short env (value_of_code y) h (stands_y env fits)) (operand-short env (value_of_code n) k (stands_n env fits)) in
-          (short-result env.structs ty short,
-          (p.stands env (stands_c env fits) (short-result env.structs (with_kind BoolKind ty) (short-kind BoolKind ty short)),
-          q.stands env (stands_y env fits) (short-result env.structs ty short),
-          r.stands env (stands_n env fits) (short-result env.structs ty short),
-          p.type,
-          q.type,
-          r.type,
-          o.basic));
+          let short : IsShort ty = o.short (operand-short env (value_of_code c) e (stands_c env fits)) (operand-short env (value_of_code y) h (stands_y env fits)) (operand-short env (value_of_code n) k (stands_n env fits)) in (
+            short-result env.structs ty short,
+            (
+              p.stands env (stands_c env fits) (short-result env.structs (with_kind BoolKind ty) (short-kind BoolKind ty short)),
+              q.stands env (stands_y env fits) (short-result env.structs ty short),
+              r.stands env (stands_n env fits) (short-result env.structs ty short),
+              p.type,
+              q.type,
+              r.type,
+              o.basic,
+            ),
+          );
     }
 
     given : ChosenOf (type_of_code c) (type_of_code y) (type_of_code n) → Becomes s (plain_value (choice_type (type_of_code c) (type_of_code y) (type_of_code n))) (choice_code at c y n)

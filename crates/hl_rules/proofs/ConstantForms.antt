@@ -112,8 +112,8 @@ leaves-there s known (kind ∷ kinds) (leaf ∷ leaves) e ready = joined (leaf-t
     joined first rest = record {
       words = word_in kind first.word ∷ rest.words;
       is =
-        ap (λ o. with_two (λ word words. Some (word_in kind word ∷ words)) o (leaf_words s kinds leaves)) first.is
-        ∙ ap (λ o. with_two (λ word words. Some (word_in kind word ∷ words)) (Some first.word) o) rest.is;
+          ap (λ o. with_two (λ word words. Some (word_in kind word ∷ words)) o (leaf_words s kinds leaves)) first.is
+          ∙ ap (λ o. with_two (λ word words. Some (word_in kind word ∷ words)) (Some first.word) o) rest.is;
       hold = (kind-holds kind first.word first.fits, rest.hold);
     }
 

@@ -1,10 +1,9 @@
 -- Groupshared variables and constants that break no rule keep what those of a program keep.
-use Rattle.std.proofs.Common.{◌≡◌, ◌∙◌, refl, sym, ap, subst, ℕ, ◌<◌, ◌≤◌, List, [], ◌∷◌, ◌++◌, length, Option, None, Some, arith}
+use Rattle.std.proofs.Common.{◌≡◌, ◌∙◌, sym, ap, subst, List, [], ◌++◌, length, Option, Some, arith}
 use Rattle.std.specs.Prelude.{option_and_then, unwrap_or}
 use Rattle.std.proofs.lemmas.List.{append-nil, length-map}
 use Rattle.hl_parser.specs.Trees.{Tree}
-use Rattle.hl_meaning.specs.declared.ty.Kind.{Kind}
-use Rattle.hl_meaning.specs.Layout.{kinds_of, words_of}
+use Rattle.hl_meaning.specs.Layout.{kinds_of}
 use Rattle.hl_meaning.specs.Places as places
 use Rattle.hl_meaning.specs.Programs.{StructDef}
 use Rattle.hl_meaning.specs.Types.{Ty, void_type}
@@ -18,11 +17,11 @@ use Rattle.hl_rules.proofs.ConstantForms.{HasWords}
 use Rattle.hl_rules.proofs.ConstantWords.{constant-words}
 use Rattle.hl_rules.proofs.DeclaratorForms.{IsKnownAs}
 use Rattle.hl_rules.proofs.Free.{IsFree}
-use Rattle.hl_rules.proofs.LayoutForms.{IsBelow, below-more, kinds_of-front, length-kinds_of}
+use Rattle.hl_rules.proofs.LayoutForms.{below-more, kinds_of-front, length-kinds_of}
 use Rattle.hl_rules.proofs.ResourceForms.{known-words_of}
 use Rattle.hl_rules.proofs.ScopeForms.{FitsNames, declared-there}
 use Rattle.hl_rules.proofs.Soundness.{IsSound}
-use Rattle.hl_rules.proofs.StructForms.{IsKnownType, IsTypeBelow, known_words, type_below, words_known}
+use Rattle.hl_rules.proofs.StructForms.{IsKnownType, known_words, type_below, words_known}
 
 -- a variable of a known type has a type that something of the program may have
 pub variable-kept : (env : places.Scope) (s : Scope) → IsSound s → FitsNames env s → (ty : Option Ty) (declarator : Tree) → IsKnownAs s (declarator_type s ty declarator) → IsDeclared env.structs (declared_variable s ty declarator).ty
@@ -43,9 +42,9 @@ pub constant-kept : (env : places.Scope) (s : Scope) → IsSound s → s.blocks 
 constant-kept env s sound outside fits ty declarator init known free = record {
   type = variable-kept env s sound fits ty declarator known;
   words =
-    subst (λ o. HoldWords (kinds_of env.structs (unwrap_or o void_type)) (unwrap_or (option_and_then (λ own. init_words s (kinds_of (struct_defs s.structs) own) init) o) [])) (sym known.is)
-    (subst (λ kinds. HoldWords kinds (unwrap_or (init_words s (kinds_of (struct_defs s.structs) known.type) init) [])) (sym (program-kinds s env.structs fits.more known.type fits.prefix known.known))
-    (subst (λ o. HoldWords (kinds_of (struct_defs s.structs) known.type) (unwrap_or o [])) (sym words.is) words.hold));
+      subst (λ o. HoldWords (kinds_of env.structs (unwrap_or o void_type)) (unwrap_or (option_and_then (λ own. init_words s (kinds_of (struct_defs s.structs) own) init) o) [])) (sym known.is)
+      (subst (λ kinds. HoldWords kinds (unwrap_or (init_words s (kinds_of (struct_defs s.structs) known.type) init) [])) (sym (program-kinds s env.structs fits.more known.type fits.prefix known.known))
+      (subst (λ o. HoldWords (kinds_of (struct_defs s.structs) known.type) (unwrap_or o [])) (sym words.is) words.hold));
 }
   where
     words : HasWords (kinds_of (struct_defs s.structs) known.type) (init_words s (kinds_of (struct_defs s.structs) known.type) init)

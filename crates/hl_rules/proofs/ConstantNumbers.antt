@@ -4,10 +4,11 @@ use Rattle.std.specs.Prelude.{bytes_eq}
 use Rattle.hl_lexer.specs.declared.terminal.Terminal.{Terminal}
 use Rattle.hl_lexer.specs.declared.terminal.Terminal.TheVariants as terminals
 use Rattle.hl_lexer.specs.Numbers.{greatest_number}
-use Rattle.hl_parser.specs.Trees.{Tree, a_binary, a_primary, absent, present}
+use Rattle.hl_parser.specs.Trees.{Tree, Trees, a_binary, a_primary, absent, more_trees, no_trees, present}
 use Rattle.hl_meaning.specs.Types.{Ty}
 use Rattle.hl_rules.specs.Constants.{combined, constant_number, number_of_sort, sum_of, word_number}
 use Rattle.hl_rules.specs.Declarations.{constant_value, with_constant}
+use Rattle.hl_rules.specs.Expressions.{first_number}
 use Rattle.hl_rules.specs.Scopes.{Named, Scope, Sort, VariableInfo, a_buffer_name, a_function_name, a_struct_name, a_variable_name, declared_among, declared_in, sort_at, sort_of, spelled}
 use Rattle.hl_rules.specs.Source.{number_at, terminal_at}
 use Rattle.hl_rules.proofs.Fitting.{IsKnown}
@@ -54,6 +55,10 @@ number-fits s known (a_primary at (present inner) absent) n e = number-fits s kn
 number-fits s known (a_binary production at left mark right) n e =
     combined-fits (terminal_at s.tokens mark) (constant_number s left) (constant_number s right) n (λ m h. number-fits s known left m h) e
 number-fits s known other n e = absurd (cc e)
+
+pub first-small : (s : Scope) → IsKnown s → (trees : Trees) (n : ℕ) → first_number s trees ≡ Some n → n ≤ greatest_number
+first-small s known no_trees n e = absurd (cc e)
+first-small s known (more_trees first rest) n e = number-fits s known first n e
 
 -- ---- behind one more name that is no constant number
 

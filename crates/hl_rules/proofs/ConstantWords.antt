@@ -13,7 +13,7 @@ use Rattle.hl_rules.specs.Parts.{a_brace_init, a_constant_init, site}
 use Rattle.hl_rules.specs.Scopes.{Scope, words_if}
 use Rattle.hl_rules.specs.Sites.{constant_sites, init_sites, leaves_sites}
 use Rattle.hl_rules.specs.Source.{terminal_at}
-use Rattle.hl_rules.specs.Values.{is_known, type_in}
+use Rattle.hl_rules.specs.Values.{type_in, is_known}
 use Rattle.hl_rules.proofs.ConstantForms.{HasWords, brace-words, is_constant_leaf, value-words}
 use Rattle.hl_rules.proofs.ConstantNumbers.{number-same}
 use Rattle.hl_rules.proofs.Fitting.{IsKnown}

@@ -16,19 +16,10 @@ use Rattle.hl_rules.specs.Parts.{a_declared, a_length, a_type_name, site}
 use Rattle.hl_rules.specs.Scopes.{Scope, Sort, StructInfo, a_buffer_name, a_function_name, a_struct_name, a_variable_name, sort_at, spelled, words_if}
 use Rattle.hl_rules.specs.Sites.{declarator_sites, lengths_sites, result_sites, type_sites, value_sites}
 use Rattle.hl_rules.proofs.Free.{IsFree, free-first, free-left, free-rest, free-right, not_broken}
+use Rattle.hl_rules.proofs.Options.{or-one, or-other}
 use Rattle.hl_rules.proofs.Soundness.{IsSound}
 use Rattle.hl_rules.proofs.StructForms.{AreKnownStructs, IsKnownType, IsTypeBelow, known_words, type_below, type_words-known, words_known}
 use Rattle.hl_rules.proofs.TreeShapes.{IsDeclarator, IsResultOf, IsTypeName}
-
--- ---- tests
-
-pub or-left : (a b : Bool) → a || b ≡ false → a ≡ false
-or-left false b e = refl
-or-left true b e = absurd (cc e)
-
-pub or-right : (a b : Bool) → a || b ≡ false → b ≡ false
-or-right false b e = e
-or-right true b e = absurd (cc e)
 
 -- a type that is known, and what it is
 pub record IsKnownAs (s : Scope) (ty : Option Ty) : Type 0 where
@@ -118,12 +109,12 @@ count-fits s before (more_trees first rest) free h =
     omega (
       arith,
       count-fits s (suc before) rest (lengths-rest s before first rest free)
-          (other-number before 16 (or-right (is_none (array_length s first)) (before == most_lengths) (length-free s before first rest free)) h),
+          (other-number before 16 (or-other (is_none (array_length s first)) (before == most_lengths) (length-free s before first rest free)) h),
     )
 
 array-known : (s : Scope) (n before : ℕ) (lengths : Trees) (ty : Ty) → IsFree (lengths_sites s before lengths) → IsTypeBelow n ty → (own : Ty) × (array_of s lengths (Some ty) ≡ Some own) × IsTypeBelow n own
 array-known s n before no_trees ty free b = (ty, refl, b)
-array-known s n before (more_trees first rest) ty free b = given (length-known (constant_number s first) (or-left (is_none (array_length s first)) (before == most_lengths) (length-free s before first rest free))) (array-known s n (suc before) rest ty (lengths-rest s before first rest free) b)
+array-known s n before (more_trees first rest) ty free b = given (length-known (constant_number s first) (or-one (is_none (array_length s first)) (before == most_lengths) (length-free s before first rest free))) (array-known s n (suc before) rest ty (lengths-rest s before first rest free) b)
   where
     given : (size : ℕ) × (array_length s first ≡ Some size) × (1 ≤ size) × (size ≤ 65536) → (element : Ty) × (array_of s rest (Some ty) ≡ Some element) × IsTypeBelow n element → (own : Ty) × (array_of s (more_trees first rest) (Some ty) ≡ Some own) × IsTypeBelow n own
     given l r = (

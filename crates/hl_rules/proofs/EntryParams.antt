@@ -38,8 +38,8 @@ input-kept : (s t : Scope) (pre more : List Variable) (number : ℕ) (before : T
 input-kept s t pre more number before at constant direction type declarator semantic ty n e k input = record {
   copying = sym (copying-tokens t s direction e) ∙ input.copying;
   semantic =
-    subst (λ o. HasSemanticIf o (variable_type (pre ++ declared_variable t (named_type t type) declarator ∷ more) number)) (sym (sym (param_semantic-tokens t s (a_param at constant direction type declarator semantic) e) ∙ input.is))
-    (subst (λ o. HasSemanticIf (Some input.semantic) o) (sym there) input.fits);
+      subst (λ o. HasSemanticIf o (variable_type (pre ++ declared_variable t (named_type t type) declarator ∷ more) number)) (sym (sym (param_semantic-tokens t s (a_param at constant direction type declarator semantic) e) ∙ input.is))
+      (subst (λ o. HasSemanticIf (Some input.semantic) o) (sym there) input.fits);
 }
   where
     there : variable_type (pre ++ declared_variable t (named_type t type) declarator ∷ more) number ≡ Some ty

@@ -1,12 +1,12 @@
 -- What is known stays known behind the declarations of structs, buffers and functions.
-use Rattle.std.proofs.Common.{◌≡◌, ◌∙◌, ◌⊎◌, inl, inr, refl, sym, ap, subst, ℕ, zero, suc, ◌<◌, ◌≤◌, Bool, true, false, List, [], ◌∷◌, ◌++◌, length, Option, None, Some, length-append, arith}
+use Rattle.std.proofs.Common.{◌≡◌, ◌∙◌, ◌⊎◌, inl, inr, refl, ap, subst, ℕ, zero, suc, ◌<◌, false, List, [], ◌∷◌, ◌++◌, length, Some, length-append, arith}
 use Rattle.std.specs.Prelude.{slice_get, unwrap_or}
 use Rattle.std.proofs.lemmas.Option.{slice_get_within}
 use Rattle.hl_meaning.specs.Types.{Ty}
-use Rattle.hl_rules.specs.Scopes.{BufferInfo, FunctionInfo, Named, Scope, StructInfo, a_buffer_name, a_function_name, a_struct_name, named, with_global}
+use Rattle.hl_rules.specs.Scopes.{BufferInfo, FunctionInfo, Scope, StructInfo, a_buffer_name, a_function_name, a_struct_name, named, with_global}
 use Rattle.hl_rules.proofs.Fitting.{IsKnownFunction}
 use Rattle.hl_rules.proofs.LayoutForms.{get-front, get-next}
-use Rattle.hl_rules.proofs.ScopeForms.{KnownSort, sound-global}
+use Rattle.hl_rules.proofs.ScopeForms.{sound-global}
 use Rattle.hl_rules.proofs.Soundness.{IsSound}
 use Rattle.hl_rules.proofs.StructForms.{IsKnownStruct, known-push, known_words}
 use Rattle.hl_rules.proofs.StructMembers.{named-member}
@@ -46,8 +46,8 @@ sound-buffer s b sound known = record {
     numbers = λ name v number e h. sound.known.numbers name v number e h;
     members = λ number member name e. sound.known.members number member name e;
     buffers = λ name number e.
-      let r = sound.known.buffers name number e in
-      (r.0, get-front s.buffers (b ∷ []) number (slice_get_within s.buffers number r.0 r.1) ∙ r.1);
+        let r = sound.known.buffers name number e in
+        (r.0, get-front s.buffers (b ∷ []) number (slice_get_within s.buffers number r.0 r.1) ∙ r.1);
     elements = λ number buffer e h. on number buffer h (get-push s.buffers b number buffer e);
     functions = λ number f e. sound.known.functions number f e;
   };
@@ -96,8 +96,8 @@ sound-struct s d sound known = record {
     variables = λ name v e. sound.known.variables name v e;
     numbers = λ name v number e h. sound.known.numbers name v number e h;
     members = λ number member name e.
-      let r = named-member (record s { structs = s.structs ++ d ∷ [] }) number member name (known-push [] s.structs d sound.structs known) e in
-      (r.type, r.is);
+        let r = named-member (record s { structs = s.structs ++ d ∷ [] }) number member name (known-push [] s.structs d sound.structs known) e in
+        (r.type, r.is);
     buffers = λ name number e. sound.known.buffers name number e;
     elements = λ number buffer e h. sound.known.elements number buffer e h;
     functions = λ number f e. sound.known.functions number f e;

@@ -19,12 +19,13 @@ use Rattle.hl_rules.specs.Parts.{a_brace_init, a_conversion, site}
 use Rattle.hl_rules.specs.Scopes.{Scope, words_if}
 use Rattle.hl_rules.specs.Sites.{init_sites, leaf_sites, leaves_sites, value_sites}
 use Rattle.hl_rules.specs.Statements.{init_code, leaf_codes, struct_def, struct_defs}
-use Rattle.hl_rules.specs.Values.{is_known, type_in}
+use Rattle.hl_rules.specs.Values.{type_in, is_known}
 use Rattle.hl_rules.proofs.Becoming.{with_two-there}
-use Rattle.hl_rules.proofs.DeclaratorForms.{IsKnownAs, or-left, or-right}
+use Rattle.hl_rules.proofs.DeclaratorForms.{IsKnownAs}
 use Rattle.hl_rules.proofs.Fitting.{Fits}
 use Rattle.hl_rules.proofs.Free.{IsFree, free-first, free-left, free-right, not_broken}
 use Rattle.hl_rules.proofs.LayoutForms.{IsBelow, kinds_of-front, length-kinds_of}
+use Rattle.hl_rules.proofs.Options.{or-one, or-other}
 use Rattle.hl_rules.proofs.Shapes.{IsExpression}
 use Rattle.hl_rules.proofs.ScopeForms.{declared-there, names-fit}
 use Rattle.hl_rules.proofs.ShortTypes.{declared-result}
@@ -81,9 +82,9 @@ leaf-values claim s sound (kind ∷ kinds) [] e free scalars = absurd (omega (ar
 leaf-values claim s sound (kind ∷ kinds) (leaf ∷ leaves) e free scalars =
     leaf-made s kind kinds leaf leaves
     (scalar-in s leaf kind (use-done claim s leaf sound free.0.0 free.0.1)
-    (or-left (is_known (λ x. not (is_scalar x)) (type_in s leaf)) (list_any (λ x. is_known (λ y. not (is_scalar y)) (type_in s x)) leaves) scalars))
+    (or-one (is_known (λ x. not (is_scalar x)) (type_in s leaf)) (list_any (λ x. is_known (λ y. not (is_scalar y)) (type_in s x)) leaves) scalars))
     (leaf-values claim s sound kinds leaves (omega arith) free.1
-    (or-right (is_known (λ x. not (is_scalar x)) (type_in s leaf)) (list_any (λ x. is_known (λ y. not (is_scalar y)) (type_in s x)) leaves) scalars))
+    (or-other (is_known (λ x. not (is_scalar x)) (type_in s leaf)) (list_any (λ x. is_known (λ y. not (is_scalar y)) (type_in s x)) leaves) scalars))
 
 -- ---- what is built
 
@@ -158,11 +159,11 @@ brace-made claim s sound ty known at parts shape free = given (leaf-values claim
     counted =
         same-count (length (leaves_among parts)) (words_in (known_words s.structs) known.type)
         (sym (ap (λ o. is_other (length (leaves_among parts)) (words_if s.structs o)) known.is ∙ ap (λ o. is_other (length (leaves_among parts)) o) (type_words-known s.structs known.type sound.structs (below-known s known.type known.known)))
-        ∙ or-left (is_other (length (leaves_among parts)) (words_if s.structs ty)) (list_any (λ leaf. is_known (λ x. not (is_scalar x)) (type_in s leaf)) (leaves_among parts)) obeyed)
+        ∙ or-one (is_other (length (leaves_among parts)) (words_if s.structs ty)) (list_any (λ leaf. is_known (λ x. not (is_scalar x)) (type_in s leaf)) (leaves_among parts)) obeyed)
         ∙ sym (length-kinds s known.type sound known.known)
 
     scalars : list_any (λ leaf. is_known (λ x. not (is_scalar x)) (type_in s leaf)) (leaves_among parts) ≡ false
-    scalars = or-right (is_other (length (leaves_among parts)) (words_if s.structs ty)) (list_any (λ leaf. is_known (λ x. not (is_scalar x)) (type_in s leaf)) (leaves_among parts)) obeyed
+    scalars = or-other (is_other (length (leaves_among parts)) (words_if s.structs ty)) (list_any (λ leaf. is_known (λ x. not (is_scalar x)) (type_in s leaf)) (leaves_among parts)) obeyed
 
     given : AreLeafValues s (kinds_of (struct_defs s.structs) known.type) (leaves_among parts) → IsInitValue s known.type (init_code s known.type (an_init at absent parts))
     given leaves = record {

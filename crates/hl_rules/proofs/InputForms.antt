@@ -79,8 +79,8 @@ input-of s before (Some semantic) (Some own) ty e h = record {
   semantic = semantic;
   is = refl;
   fits =
-    subst (λ t. HasSemantic semantic t) (ap (λ o. unwrap_or o own) e)
-    (semantic-fits semantic own (not-false (is_semantic_type semantic own) (not-true (not (is_semantic_type semantic own)) (and-one (not (not (is_semantic_type semantic own))) (not (is_semantic_among s semantic before)) h))));
+      subst (λ t. HasSemantic semantic t) (ap (λ o. unwrap_or o own) e)
+      (semantic-fits semantic own (not-false (is_semantic_type semantic own) (not-true (not (is_semantic_type semantic own)) (and-one (not (not (is_semantic_type semantic own))) (not (is_semantic_among s semantic before)) h))));
   fresh = not-true (is_semantic_among s semantic before) (and-other (not (not (is_semantic_type semantic own))) (not (is_semantic_among s semantic before)) h);
 }
 

@@ -1,5 +1,5 @@
 -- Jumps become jumps of the program.
-use Rattle.std.proofs.Common.{◌≡◌, ◌∙◌, ◌⊎◌, inl, inr, refl, sym, ap, ℕ, Bool, true, false, List, [], ◌∷◌, ◌++◌, None, Some}
+use Rattle.std.proofs.Common.{◌≡◌, ◌∙◌, ◌⊎◌, inl, inr, refl, sym, ap, ℕ, true, false, List, [], ◌∷◌, ◌++◌, None, Some}
 use Rattle.std.specs.Prelude.{IsTrue, not, option_and_then, option_map, unwrap_or}
 use Rattle.hl_lexer.specs.declared.terminal.Terminal.{Terminal}
 use Rattle.hl_lexer.specs.declared.terminal.Terminal.TheVariants as terminals
@@ -19,6 +19,7 @@ use Rattle.hl_rules.specs.Values.{type_in}
 use Rattle.hl_rules.proofs.DeclaratorForms.{IsKnownResult}
 use Rattle.hl_rules.proofs.Fitting.{Fits}
 use Rattle.hl_rules.proofs.Free.{IsFree, free-first, free-left, free-rest, free-right, not_broken}
+use Rattle.hl_rules.proofs.Options.{not-false}
 use Rattle.hl_rules.proofs.Shapes.{IsExpression}
 use Rattle.hl_rules.proofs.ScopeForms.{declared-there, names-fit}
 use Rattle.hl_rules.proofs.ShortTypes.{declared-result}
@@ -73,10 +74,6 @@ return-made claim s body at e shape free =
     (free-rest (site s (a_return at (present e))) (site s (a_conversion (type_in s e) s.result (at_of e)) ∷ []) behind))
 
 -- ---- jumps without a value
-
-not-false : (b : Bool) → not b ≡ false → b ≡ true
-not-false true e = refl
-not-false false e = absurd (cc e)
 
 in_loop-there : (s : Scope) (at : ℕ) → IsFree (site s (a_loop_jump at) ∷ []) → IsTrue s.in_loop
 in_loop-there s at free = not-false s.in_loop (not_broken (not s.in_loop) at (free-first (site s (a_loop_jump at)) [] free).obeys_19)

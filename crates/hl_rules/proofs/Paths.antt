@@ -91,4 +91,3 @@ distinct-last structs from to (more_parts (member_part number) (more_parts secon
 distinct-last structs from to (more_parts (index_part index) (more_parts second rest)) e =
     let l : IsLong structs from to (index_part index) (more_parts second rest) = path-long structs from to (index_part index) second rest e in
     distinct-last structs l.middle to (more_parts second rest) l.path
-

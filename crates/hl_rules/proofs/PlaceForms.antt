@@ -16,7 +16,7 @@ use Rattle.hl_rules.proofs.Fitting.{Fits, FitsBuffer, FitsVariable, IsKnown, IsS
 
 -- ---- names
 
-from-not : (b : Bool) → not b ≡ true → b ≡ false
+pub from-not : (b : Bool) → not b ≡ true → b ≡ false
 from-not false e = refl
 from-not true e = absurd (cc e)
 
@@ -71,16 +71,18 @@ one-class : (class : ℕ) (writable : Bool) → class ≡ (if writable then 1 el
 one-class class true e h = ap (λ n. n == 1) e
 one-class class false e h = absurd (cc h)
 
-buffer-writes : (env : places.Scope) (number : ℕ) (buffer : BufferInfo) → FitsBuffer env number buffer → buffer.writable ≡ true → is_writable (slice_get env.resources number) ≡ true
+pub buffer-writes : (env : places.Scope) (number : ℕ) (buffer : BufferInfo) → FitsBuffer env number buffer → buffer.writable ≡ true → is_writable (slice_get env.resources number) ≡ true
 buffer-writes env number buffer f e = ap (λ o. is_writable o) f.there ∙ one-class f.resource.class buffer.writable f.class e
 
 pub element-stands : (env : places.Scope) (number : ℕ) (buffer : BufferInfo) (ty : Ty) (index : Expr) → FitsBuffer env number buffer → buffer.raw ≡ false → buffer.element ≡ Some ty → IsExpr env index → type_of index ≡ uint_type → IsStanding env buffer.writable buffer.writable [] ty (element_root number index) no_parts
 element-stands env number buffer ty index f e h k l = record {
-  is = ((f.element ty e h).1,
-  (k, l),
-  tt,
-  root-reached env (element_root number index) ty
-  (ap (λ o. option_and_then element_type o) f.there ∙ element-root f.resource.raw buffer.raw f.resource.element ty f.raw e (f.element ty e h).0));
+  is = (
+    (f.element ty e h).1,
+    (k, l),
+    tt,
+    root-reached env (element_root number index) ty
+        (ap (λ o. option_and_then element_type o) f.there ∙ element-root f.resource.raw buffer.raw f.resource.element ty f.raw e (f.element ty e h).0),
+  );
   writes = buffer-writes env number buffer f;
   shares = buffer-writes env number buffer f;
   ends = refl;

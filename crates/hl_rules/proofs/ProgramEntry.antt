@@ -68,13 +68,13 @@ module _ (tokens : List Lexeme) (s : Scope) (place at : ℕ) (attributes : Trees
     kept = entry-kept s tokens attributes result name params block made.f (is-entry s name e h) own shape.0.2 known.0 made.made;
     threads = threads.threads;
     is =
-      ap (λ b. both_lists (if b then option_map (λ (t : List ℕ). t ∷ []) (attribute_threads s attributes) else Some []) (all_of_items item_threads (with_function s result name params) rest)) (is-entry s name e h)
-      ∙ (ap (λ o. both_lists (option_map (λ (t : List ℕ). t ∷ []) o) (all_of_items item_threads (with_function s result name params) rest)) threads.is
-      ∙ ap (λ o. both_lists (Some (threads.threads ∷ [])) o)
-      (no-threads tokens (with_function s result name params) rest shape.1 (free-items s (an_item place (a_function at attributes result name params block)) rest free)
-      (is_function-any (with_function s result name params) s.entry
-      ∙ (list_any-append (is_named s.entry) s.functions (function_info s result name params ∷ [])
-      ∙ (ap (λ b. b || list_any (is_named s.entry) (function_info s result name params ∷ [])) (sym (is_function-any s s.entry) ∙ e) ∙ ap (λ b. b || false) h)))));
+        ap (λ b. both_lists (if b then option_map (λ (t : List ℕ). t ∷ []) (attribute_threads s attributes) else Some []) (all_of_items item_threads (with_function s result name params) rest)) (is-entry s name e h)
+        ∙ (ap (λ o. both_lists (option_map (λ (t : List ℕ). t ∷ []) o) (all_of_items item_threads (with_function s result name params) rest)) threads.is
+        ∙ ap (λ o. both_lists (Some (threads.threads ∷ [])) o)
+        (no-threads tokens (with_function s result name params) rest shape.1 (free-items s (an_item place (a_function at attributes result name params block)) rest free)
+        (is_function-any (with_function s result name params) s.entry
+        ∙ (list_any-append (is_named s.entry) s.functions (function_info s result name params ∷ [])
+        ∙ (ap (λ b. b || list_any (is_named s.entry) (function_info s result name params ∷ [])) (sym (is_function-any s s.entry) ∙ e) ∙ ap (λ b. b || false) h)))));
     are = threads.are;
   }
     where
@@ -98,8 +98,8 @@ module _ (tokens : List Lexeme) (s : Scope) (place at : ℕ) (attributes : Trees
     kept = found.kept;
     threads = found.threads;
     is =
-      ap (λ b. both_lists (if b then option_map (λ (t : List ℕ). t ∷ []) (attribute_threads s attributes) else Some []) (all_of_items item_threads (with_function s result name params) rest)) (not-entry s name h)
-      ∙ ap (λ o. both_lists (Some []) o) found.is;
+        ap (λ b. both_lists (if b then option_map (λ (t : List ℕ). t ∷ []) (attribute_threads s attributes) else Some []) (all_of_items item_threads (with_function s result name params) rest)) (not-entry s name h)
+        ∙ ap (λ o. both_lists (Some []) o) found.is;
     are = found.are;
   }
 

@@ -1,17 +1,17 @@
 -- Buffers that break no rule keep what the resources of a program keep.
-use Rattle.std.proofs.Common.{◌≡◌, ◌∙◌, refl, sym, ap, subst, arith, ℕ, ◌<◌, ◌≤◌, Bool, true, false, not, if◌then◌else◌, nat_lt, List, [], ◌∷◌, ◌++◌, length, Option, None, Some}
+use Rattle.std.proofs.Common.{◌≡◌, ◌∙◌, refl, sym, ap, subst, arith, ℕ, ◌≤◌, Bool, true, false, if◌then◌else◌, nat_lt, List, [], ◌∷◌, ◌++◌, length, Option, Some}
 use Rattle.std.specs.Prelude.{slice_get, unwrap_or}
 use Rattle.std.proofs.lemmas.List.{length-map}
-use Rattle.hl_parser.specs.Trees.{Tree, a_buffer, a_kind, absent, present}
+use Rattle.hl_parser.specs.Trees.{Tree, a_kind, absent, present}
 use Rattle.hl_meaning.specs.Layout.{words_of}
 use Rattle.hl_meaning.specs.Places as places
-use Rattle.hl_meaning.specs.Programs.{Resource, StructDef}
+use Rattle.hl_meaning.specs.Programs.{StructDef}
 use Rattle.hl_meaning.specs.Types.{Ty, void_type}
-use Rattle.hl_meaning.specs.WellFormed.{IsDeclared, IsElement, IsResource, most_element_words}
+use Rattle.hl_meaning.specs.WellFormed.{IsElement, IsResource, most_element_words}
 use Rattle.hl_rules.specs.Constants.{named_type}
 use Rattle.hl_rules.specs.DeclarationRules.{is_more}
 use Rattle.hl_rules.specs.Declarations.{buffer_info}
-use Rattle.hl_rules.specs.Elaboration.{element_if, resource}
+use Rattle.hl_rules.specs.Elaboration.{resource}
 use Rattle.hl_rules.specs.Parts.{an_element, site}
 use Rattle.hl_rules.specs.Scopes.{BufferInfo, Scope, type_words, words_if}
 use Rattle.hl_rules.specs.Sites.{element_sites, type_sites}

@@ -1,9 +1,10 @@
 -- The first of a list that passes a test.
 use Rattle.std.proofs.Common.{◌≡◌, refl, subst, arith, ℕ, suc, ◌+◌, ◌<◌, Bool, true, false, not, cond, nat_lt, List, [], ◌∷◌, length, one-add, position, find, Some}
 use Rattle.std.specs.Prelude.{slice_get}
-use Rattle.std.specs.List.{All, position_or_len}
+use Rattle.std.specs.List.{All, list_all, position_or_len}
 use Rattle.std.proofs.lemmas.Bool.{ltb-true}
 use Rattle.std.proofs.lemmas.Option.{cond_some, same_Some}
+use Rattle.hl_rules.proofs.TypeLemmas.{and-left, and-right}
 
 -- the first of a list that passes, and its place
 pub record IsFirst {A : Type 0} (test : A → Bool) (xs : List A) (place : ℕ) (x : A) : Type 0 where
@@ -35,4 +36,13 @@ find-all {A} P test (y ∷ ys) x h e = on (test y) e (λ k. find-all P test ys x
   where
     on : (passes : Bool) → cond passes (Some y) (find test ys) ≡ Some x → (find test ys ≡ Some x → P x) → P x
     on true k rest = subst P (same_Some y x k) (h 0 y (omega arith))
+    on false k rest = rest k
+
+-- what a test says of each of a list it says of the one that is found
+pub find-tested : {A : Type 0} (test passes : A → Bool) (xs : List A) (x : A) → list_all test xs ≡ true → find passes xs ≡ Some x → test x ≡ true
+find-tested test passes [] x h e = absurd (cc e)
+find-tested {A} test passes (y ∷ ys) x h e = on (passes y) e (λ k. find-tested test passes ys x (and-right (test y) (list_all test ys) h) k)
+  where
+    on : (found : Bool) → cond found (Some y) (find passes ys) ≡ Some x → (find passes ys ≡ Some x → test x ≡ true) → test x ≡ true
+    on true k rest = subst (λ z. test z ≡ true) (same_Some y x k) (and-left (test y) (list_all test ys) h)
     on false k rest = rest k

@@ -5,12 +5,13 @@ use Rattle.hl_lexer.specs.Tokens.{Lexeme}
 use Rattle.hl_parser.specs.Grammar.{Each, ElseIs, FirstIs, Headed, Mark, PerhapsToken, RegisterIs, SemanticIs, SpaceIs, Spells, SpellsProgram, Step, first_among, first_if, first_of, is_jump, numbered, ◌then◌}
 use Rattle.hl_parser.specs.Trees.{Maybe, Tree, Trees, a_block, a_buffer, a_constant, a_do, a_for, a_function, a_jump, a_local, a_param, a_program, a_shared, a_stmt, a_struct, a_while, absent, an_if, an_item, at_of, more_trees, no_trees, present}
 use Rattle.hl_lexer.specs.declared.terminal.Terminal.{Terminal}
+use Rattle.hl_rules.specs.Source.{terminals_of}
 use Rattle.hl_rules.proofs.DeclarationShapes.{walk-attribute, walk-declarator, walk-declarators, walk-direction, walk-each, walk-init, walk-kind, walk-listed-of, walk-member, walk-perhaps, walk-perhaps-listed-of, walk-result, walk-several, walk-start, walk-type}
 use Rattle.hl_rules.proofs.ExpressionShapes.{walk-expr}
 use Rattle.hl_rules.proofs.Productions.{production_of, stands, stands-itself}
 use Rattle.hl_rules.proofs.Shapes.{IsExpression}
 use Rattle.hl_rules.proofs.TreeShapes.{AreAttributes, AreStatements, IfTree, IsAttribute, IsBlock, IsDeclaration, IsDirection, IsFirstPart, IsItem, IsLocal, IsMember, IsParam, IsPart, IsProgram, IsStart, IsStatement, IsStatementIf}
-use Rattle.hl_rules.proofs.Walking.{Walks, source-read, terminals_of, walk-as, walk-at, walk-before, walk-behind, walk-map, walk-mark, walk-nothing, walk-or, walk-past, walk-then, walk-token, walk-word}
+use Rattle.hl_rules.proofs.Walking.{Walks, source-read, walk-as, walk-at, walk-before, walk-behind, walk-map, walk-mark, walk-nothing, walk-or, walk-past, walk-then, walk-token, walk-word}
 
 walk-perhaps_token : (tokens : List Lexeme) (index : Option ℕ) (terminal : Terminal) → Walks tokens (PerhapsToken index terminal) (Unit {0})
 walk-perhaps_token tokens None terminal = walk-nothing tokens tt

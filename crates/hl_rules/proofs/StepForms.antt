@@ -90,28 +90,34 @@ reached-step env from ty root parts part pick e h = given (place-path env from r
 
 place-fits : (env : places.Scope) (at : ℕ) (part : PathPart) (from ty : Ty) (w a v b : Bool) (letters others : List ℕ) (root : Root) (parts : PathParts) → IsStep env part from ty → IsFollowed part from (a_place w a letters) (a_place v b others) → IsStanding env w a letters from root parts → IsStanding env v b others ty root (and_part parts part)
 place-fits env at part from ty w a v b letters others root parts step follows h = record {
-  is = (step.declared,
-  h.is.1,
-  and-parts env parts part h.is.2 step.part_is,
-  reached-step env from ty root parts part (λ l. follows.3 (ap (λ x. is_longer x) h.ends ∙ l)) h.is.3 step.leads);
+  is = (
+    step.declared,
+    h.is.1,
+    and-parts env parts part h.is.2 step.part_is,
+    reached-step env from ty root parts part (λ l. follows.3 (ap (λ x. is_longer x) h.ends ∙ l)) h.is.3 step.leads,
+  );
   writes = λ e. h.writes (follows.0 ∙ e);
   shares = λ e. h.shares (follows.1 ∙ e);
   ends = follows.2 parts h.ends;
 }
 
 picked-fits : (env : places.Scope) (at : ℕ) (part : PathPart) (ty : Ty) (e : Expr) → IsStep env part (type_of e) ty → is_fixed part ≡ true → IsExpr env e → IsExpr env (an_expr ty at (pick_form e (more_parts part no_parts)))
-picked-fits env at part ty e step fixed h =
-    (declared-result env.structs ty step.declared,
-    (h, (step.part_is, tt), and-fixed no_parts part refl fixed, refl, path-single env.structs (type_of e) part ∙ step.leads))
+picked-fits env at part ty e step fixed h = (
+  declared-result env.structs ty step.declared,
+  (h, (step.part_is, tt), and-fixed no_parts part refl fixed, refl, path-single env.structs (type_of e) part ∙ step.leads),
+)
 
 again-fits : (env : places.Scope) (at first : ℕ) (part : PathPart) (from ty : Ty) (e : Expr) (parts : PathParts) → IsStep env part from ty → is_fixed part ≡ true → (is_vector from ≡ true → is_picking part ≡ true) → IsExpr env (an_expr from first (pick_form e parts)) → IsExpr env (an_expr ty at (pick_form e (and_part parts part)))
-again-fits env at first part from ty e parts step fixed pick h =
-    (declared-result env.structs ty step.declared,
-    (h.1.0,
+again-fits env at first part from ty e parts step fixed pick h = (
+  declared-result env.structs ty step.declared,
+  (
+    h.1.0,
     and-parts env parts part h.1.1 step.part_is,
     and-fixed parts part h.1.2 fixed,
     ap not (and-more parts part),
-    path-step env.structs (type_of e) from ty parts part (picks env.structs (type_of e) from parts part h.1.4 pick) h.1.4 step.leads))
+    path-step env.structs (type_of e) from ty parts part (picks env.structs (type_of e) from parts part h.1.4 pick) h.1.4 step.leads,
+  ),
+)
 
 value-fits : (env : places.Scope) (at : ℕ) (part : PathPart) (ty : Ty) (e : Expr) → IsStep env part (type_of e) ty → is_fixed part ≡ true → (is_vector (type_of e) ≡ true → is_picking part ≡ true) → IsExpr env e → IsCode env no_place (with_part at part ty (a_value_code e))
 value-fits env at part ty (an_expr from first (pick_form value parts)) step fixed pick h = again-fits env at first part from ty value parts step fixed pick h

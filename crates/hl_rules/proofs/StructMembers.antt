@@ -1,10 +1,9 @@
 -- Each known struct keeps what a struct of a program keeps, and a member of a name has its type.
-use Rattle.std.proofs.Common.{drop, suc, ◌≡◌, ◌∙◌, ◌⊎◌, inl, inr, refl, sym, ap, subst, ℕ, ◌+◌, ◌<◌, ◌≤◌, Bool, true, false, cond, get_or, List, [], ◌∷◌, ◌++◌, length, map, take, Some, None, length-take, arith}
-use Rattle.std.specs.Prelude.{slice_get, unwrap_or, option_and_then, option_map, find, position, nat_lt, bytes_eq}
-use Rattle.std.specs.List.{All, position_or_len}
+use Rattle.std.proofs.Common.{drop, suc, ◌≡◌, ◌∙◌, ◌⊎◌, inl, inr, refl, sym, ap, subst, ℕ, ◌+◌, ◌<◌, ◌≤◌, get_or, List, [], ◌∷◌, ◌++◌, length, map, take, Some, None, length-take, arith}
+use Rattle.std.specs.Prelude.{slice_get, unwrap_or, option_and_then, option_map, find, bytes_eq}
+use Rattle.std.specs.List.{All}
 use Rattle.std.proofs.lemmas.List.{append-nil, length-map, take-map}
 use Rattle.std.proofs.lemmas.List.Elements.{All-cons, All-nil}
-use Rattle.std.proofs.lemmas.List.Folds.{find_at}
 use Rattle.std.proofs.lemmas.Option.{slice_get-map, slice_get_cases, slice_get_within}
 use Rattle.hl_meaning.specs.Types.{Ty, struct_type, void_type}
 use Rattle.hl_meaning.specs.Programs.{Member, StructDef}
@@ -15,29 +14,11 @@ use Rattle.hl_rules.specs.Scopes.{MemberInfo, Scope, StructInfo, type_words}
 use Rattle.hl_rules.specs.Statements.{members_from, struct_def, struct_defs}
 use Rattle.hl_rules.specs.Values.{member_number, member_type, members_of}
 use Rattle.hl_rules.proofs.LayoutForms.{IsBelow, below-more}
+use Rattle.hl_rules.proofs.Searching.{IsFirst, position-first}
 use Rattle.hl_rules.proofs.StructForms.{AreKnownMembers, AreKnownStructs, IsKnownMember, IsKnownStruct, IsKnownType, declared-known, known-at, known-split, known-take, known_type-front, known_words, struct_words-known, type_words-known, words_known, words_of-known}
 use Rattle.hl_rules.proofs.StructLayout.{known_member-at, member_type-known, offsets-from}
 
 -- ---- names
-
-place_if : {A : Type 0} (p : A → Bool) (xs : List A) (k : ℕ) (there : Bool) → cond there (Some (position_or_len p xs)) None ≡ Some k → position_or_len p xs ≡ k
-place_if p xs k true e = ap (λ o. unwrap_or o k) e
-place_if p xs k false e = absurd (cc e)
-
-find-position : {A : Type 0} (p : A → Bool) (xs : List A) (k : ℕ) → position p xs ≡ Some k → find p xs ≡ slice_get xs k
-find-position p xs k e = find_at p xs ∙ ap (λ n. slice_get xs n) (place_if p xs k (nat_lt (position_or_len p xs) (length xs)) e)
-
-place_within : {A : Type 0} (p : A → Bool) (xs : List A) (k : ℕ) (there : Bool) → nat_lt (position_or_len p xs) (length xs) ≡ there → cond there (Some (position_or_len p xs)) None ≡ Some k → k < length xs
-place_within p xs k true h e = let same : position_or_len p xs ≡ k = ap (λ o. unwrap_or o k) e in grind arith
-place_within p xs k false h e = absurd (cc e)
-
--- what stands at the first place that passes
-position-there : {A : Type 0} (p : A → Bool) (xs : List A) (k : ℕ) → position p xs ≡ Some k → (x : A) × (slice_get xs k ≡ Some x) × (find p xs ≡ Some x)
-position-there {A} p xs k e = given (slice_get_cases xs k).1
-  where
-    given : ((x : A) × (k < length xs) × (slice_get xs k ≡ Some x) × (get_or xs k x ≡ x)) ⊎ ((length xs ≤ k) × (slice_get xs k ≡ None)) → (x : A) × (slice_get xs k ≡ Some x) × (find p xs ≡ Some x)
-    given (inl r) = (r.0, r.2, find-position p xs k e ∙ r.2)
-    given (inr r) = let h : k < length xs = place_within p xs k (nat_lt (position_or_len p xs) (length xs)) refl e in absurd (omega (arith, h, r.0))
 
 -- A member that is named has a type that something may have, and it is there, whatever structs come behind.
 pub record IsNamedMember (s : Scope) (number place : ℕ) (name : List ℕ) : Type 0 where
@@ -63,11 +44,11 @@ named-member s number place name known e = given (slice_get_cases s.structs numb
       there = λ more. member_type-known s.structs more number place d m k.type struct_there there k.is;
     }
 
-    struct-there : (d : StructInfo) → slice_get s.structs number ≡ Some d → (m : MemberInfo) × (slice_get d.members place ≡ Some m) × (find (λ x. bytes_eq x.name name) d.members ≡ Some m) → IsNamedMember s number place name
-    struct-there d h r = found d r.0 h r.1 r.2 (known_member-at (known_words (take number s.structs)) d.members place r.0 (known-at [] s.structs number d known h).members r.1)
+    struct-there : (d : StructInfo) → slice_get s.structs number ≡ Some d → (m : MemberInfo) × IsFirst (λ x. bytes_eq x.name name) d.members place m → IsNamedMember s number place name
+    struct-there d h r = found d r.0 h r.1.there r.1.found (known_member-at (known_words (take number s.structs)) d.members place r.0 (known-at [] s.structs number d known h).members r.1.there)
 
     given : ((d : StructInfo) × (number < length s.structs) × (slice_get s.structs number ≡ Some d) × (get_or s.structs number d ≡ d)) ⊎ ((length s.structs ≤ number) × (slice_get s.structs number ≡ None)) → IsNamedMember s number place name
-    given (inl r) = struct-there r.0 r.2 (position-there (λ x. bytes_eq x.name name) r.0.members place (ap (λ l. member_number l name) (sym (members-there s number r.0 r.2)) ∙ e))
+    given (inl r) = struct-there r.0 r.2 (position-first (λ x. bytes_eq x.name name) r.0.members place (ap (λ l. member_number l name) (sym (members-there s number r.0 r.2)) ∙ e))
     given (inr r) = absurd (cc (ap (λ l. member_number l name) (sym (members-absent s number r.1)) ∙ e))
 
 -- ---- structs of the program

@@ -115,4 +115,3 @@ merged-index structs from mid to ty at number before l e h =
       within = and_from (nat_lt (slice_index_or before number 0) p.size) true (letter-within p.size before number p.swizzle.within own.0) refl;
     })
     ∙ ap Some own.1)
-

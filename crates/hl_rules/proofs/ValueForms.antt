@@ -11,14 +11,13 @@ use Rattle.hl_meaning.specs.Programs.{StructDef}
 use Rattle.hl_meaning.specs.Places as places
 use Rattle.hl_meaning.proofs.LayoutLemmas.{words-scalar}
 use Rattle.hl_meaning.specs.WellFormed.{IsExpr, IsResult}
-use Rattle.hl_rules.specs.Values.{is_known}
 use Rattle.hl_rules.specs.ExpressionRules.{is_no_conversion}
 use Rattle.hl_rules.specs.Expressions.{code_of, value_in}
 use Rattle.hl_rules.specs.Nodes.{converted, converted_code, type_of_code, value_of_code}
 use Rattle.hl_rules.specs.Parts.{Site, a_condition, a_conversion, a_use, site}
 use Rattle.hl_rules.specs.Scopes.{Scope}
 use Rattle.hl_rules.specs.Sites.{condition_sites, expression_sites, value_sites}
-use Rattle.hl_rules.specs.Values.{is_nothing, type_in, value_of, valued}
+use Rattle.hl_rules.specs.Values.{is_nothing, type_in, value_of, valued, is_known}
 use Rattle.hl_rules.proofs.Becoming.{Becomes, IsConverted, becomes-stands, converted-there, not-true, valued-there}
 use Rattle.hl_rules.proofs.Fitting.{Fits, IsKnown}
 use Rattle.hl_rules.proofs.Free.{IsFree, free-first, free-left, free-right, not_broken}

@@ -5,11 +5,7 @@ use Rattle.hl_lexer.specs.declared.terminal.Terminal.{Terminal}
 use Rattle.hl_lexer.specs.Terminals.{terminal_of}
 use Rattle.hl_lexer.specs.Tokens.{Lexeme}
 use Rattle.hl_parser.specs.Grammar.{As, At, Mark, Nothing, Numbered, Operator, Step, Token, Word, nth, numbered, operator_of, ◌or◌, ◌then◌}
-use Rattle.hl_rules.specs.Source.{terminal_at}
-
--- what tokens are for the grammar
-abbrev pub terminals_of : List Lexeme → List Terminal
-terminals_of tokens = map (λ token. terminal_of token.kind) tokens
+use Rattle.hl_rules.specs.Source.{terminal_at, terminals_of}
 
 -- each token is what stands at its index
 abbrev pub AreRead : List Lexeme → List Numbered → Type 0

@@ -69,13 +69,16 @@ assignment-becomes s at first place right h target stands = given (converted-the
       is = made c.to c.is;
       type = refl;
       agrees = tt;
-      fits = λ env fits.
-          (target-result s place target env fits,
-          ((target env fits).0,
+      fits = λ env fits. (
+        target-result s place target env fits,
+        (
+          (target env fits).0,
           (target env fits).1,
           refl,
           c.stands env (stands env fits) (target-result s place target env fits),
-          (refl, c.type, refl)));
+          (refl, c.type, refl),
+        ),
+      );
     }
 
 compound-made : (production at op : ℕ) (old : Bool) (first : ℕ) (place : Location) (right : Code) (ty : Ty) (value : Expr) → operand_type production (place_type place) (type_of_code right) ≡ Some ty → converted_code ty right ≡ Some value → compound_code production at op old (a_place_code first place) right ≡ a_value (place_type place) at (write_form place (Some op) ty value old)
@@ -99,13 +102,16 @@ compound-becomes s production at op old first place right is h k target stands =
       type = refl;
       agrees = tt;
       fits = λ env fits.
-          let short : IsShort ty = o.short (result-short env.structs (place_type place) h (target-result s place target env fits)) (operand-short env (value_of_code right) k (stands env fits)) in
-          (target-result s place target env fits,
-          ((target env fits).0,
-          (target env fits).1,
-          refl,
-          c.stands env (stands env fits) (short-result env.structs ty short),
-          (is.computes, c.type, o.numbers is.numbers, o.left, is.back ty o.computes, is.steps)));
+          let short : IsShort ty = o.short (result-short env.structs (place_type place) h (target-result s place target env fits)) (operand-short env (value_of_code right) k (stands env fits)) in (
+            target-result s place target env fits,
+            (
+              (target env fits).0,
+              (target env fits).1,
+              refl,
+              c.stands env (stands env fits) (short-result env.structs ty short),
+              (is.computes, c.type, o.numbers is.numbers, o.left, is.back ty o.computes, is.steps),
+            ),
+          );
     }
 
     given : (ty : Ty) × IsOperated production (place_type place) (type_of_code right) ty (result_of production ty) → Becomes s (plain_value (Some (place_type place))) (compound_code production at op old (a_place_code first place) right)

@@ -1,5 +1,5 @@
 -- The tokens of a source, each by its index.
-use Rattle.std.specs.Prelude.{ℕ, Bool, false, List, [], option_map, slice_get, unwrap_or}
+use Rattle.std.specs.Prelude.{ℕ, Bool, false, List, [], map, option_map, slice_get, unwrap_or}
 use Rattle.hl_lexer.specs.declared.terminal.Terminal.{Terminal}
 use Rattle.hl_lexer.specs.declared.terminal.Terminal.TheVariants as terminals
 use Rattle.hl_lexer.specs.declared.token.TokenKind.{TokenKind}
@@ -25,6 +25,10 @@ mark_of kinds.Name = 0
 mark_of (kinds.Word number) = 0
 mark_of (kinds.Number value unsigned) = 0
 mark_of (kinds.Mark number) = number
+
+-- what tokens are for the grammar
+abbrev pub terminals_of : List Lexeme → List Terminal
+terminals_of tokens = map (λ token. terminal_of token.kind) tokens
 
 -- the bytes of the token of an index
 abbrev pub text_at : List Lexeme → ℕ → List ℕ

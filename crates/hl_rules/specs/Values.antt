@@ -1,5 +1,5 @@
 -- What is known of an expression: its type, and whether it is a place (HLSL, "Expressions").
-use Rattle.std.specs.Prelude.{ℕ, suc, ◌==◌, ◌&&◌, ◌||◌, not, Bool, true, false, if◌then◌else◌, nat_le, nat_lt, List, [], ◌∷◌, length, map, find, position, Option, None, Some, option_map, option_and_then, slice_get, slice_index_or, bytes_eq, codes, Result, Ok, Err}
+use Rattle.std.specs.Prelude.{ℕ, suc, ◌==◌, ◌&&◌, ◌||◌, not, Bool, true, false, if◌then◌else◌, nat_le, nat_lt, List, [], ◌∷◌, length, map, find, position, Option, None, Some, option_map, option_and_then, slice_get, slice_index_or, bytes_eq, codes, unwrap_or, Result, Ok, Err}
 use Rattle.std.specs.List.{list_all}
 use Rattle.hl_lexer.specs.declared.terminal.Terminal.{Terminal}
 use Rattle.hl_lexer.specs.declared.terminal.Terminal.TheVariants as terminals
@@ -20,7 +20,7 @@ use Rattle.hl_rules.specs.declared.interlocked.Method.{Method}
 use Rattle.hl_rules.specs.declared.interlocked.Method.TheVariants.{DoesAtomic, LoadsElement, LoadsWords, StoresWords}
 use Rattle.hl_rules.specs.Intrinsics.{Operands, interlocked_form, intrinsic_named, method_of, operands_of, passed}
 use Rattle.hl_rules.specs.Operands.{choice_type, negated_type, of_three, of_two, operator_type, signed_type}
-use Rattle.hl_rules.specs.Scopes.{BufferInfo, FunctionInfo, MemberInfo, ParamInfo, Scope, Sort, StructInfo, a_buffer_name, a_function_name, a_variable_name, sort_at, spelled}
+use Rattle.hl_rules.specs.Scopes.{BufferInfo, FunctionInfo, MemberInfo, ParamInfo, Scope, Sort, a_buffer_name, a_function_name, a_variable_name, sort_at, spelled}
 use Rattle.hl_rules.specs.Source.{is_unsigned_at, number_at, terminal_at}
 
 -- Whether an expression is a place. It isn't known of some names, and of what stands on them. A place is known by its
@@ -100,11 +100,7 @@ abbrev pub member_number : List MemberInfo → List ℕ → Option ℕ
 member_number members name = position (λ m. bytes_eq m.name name) members
 
 abbrev pub members_of : Scope → ℕ → List MemberInfo
-members_of s number = members_if (slice_get s.structs number)
-  where
-    members_if : Option StructInfo → List MemberInfo
-    members_if None = []
-    members_if (Some d) = d.members
+members_of s number = unwrap_or (option_map (λ d. d.members) (slice_get s.structs number)) []
 
 abbrev pub member_type : Scope → (number : ℕ) → List ℕ → Option Ty
 member_type s number name =

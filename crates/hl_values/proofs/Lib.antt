@@ -1,5 +1,7 @@
 pub mod BasicLemmas
 pub mod ChangeLemmas
+pub mod ConstantLemmas
+pub mod ExpressionLemmas
 pub mod FormLemmas
 pub mod KnownLemmas
 pub mod LetterLemmas

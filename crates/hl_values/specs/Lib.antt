@@ -1,4 +1,6 @@
+pub mod Arrays
 pub mod Basics
+pub mod GlobalNames
 pub mod Known
 pub mod NameEntries
 pub mod NameTables

@@ -53,6 +53,9 @@ pub record Held : Type 0 where
   pub constants : List Constant
   pub variables : List Variable
 
+abbrev pub nothing_held : Held
+nothing_held = record { shared = []; constants = []; variables = [] }
+
 unfoldable pub held_of : HeldScope → Held
 held_of s = record {
   shared = map plain_variable s.shared;

@@ -5,8 +5,9 @@ ghost use Rattle.std.specs.Prelude.{◌≡◌, ◌∷◌, ◌++◌, [], None, So
 ghost use Rattle.hl_meaning.specs.Types.{void_type};
 ghost use Rattle.hl_meaning.specs.Views.{plain_constant as program_constant, plain_ty, plain_variable as program_variable};
 ghost use Rattle.hl_rules.specs.Declarations.{with_variable};
-ghost use Rattle.hl_rules.specs.Scopes.{looped, named, opened, spelled, with_global, with_local};
-ghost use Rattle.hl_values.specs.ScopeChanges.{closed, held_of, held_variable, in_function, inside_of, one_block, outside, with_buffer_named, with_constant_named, with_function_named, with_shared_named, with_struct_named};
+ghost use Rattle.hl_lexer.specs.Tokens.{lexeme_of};
+ghost use Rattle.hl_rules.specs.Scopes.{first_scope, looped, named, opened, spelled, with_global, with_local};
+ghost use Rattle.hl_values.specs.ScopeChanges.{closed, held_of, held_variable, in_function, inside_of, nothing_held, one_block, outside, with_buffer_named, with_constant_named, with_function_named, with_shared_named, with_struct_named};
 ghost use Rattle.hl_values.specs.ScopeViews.{plain_blocks, plain_buffer, plain_param, plain_sort, scope_of};
 ghost use Rattle.hl_values.specs.StructTables.{plain_member};
 ghost use Rattle.hl_values.specs.Views.{plain_type_if};
@@ -15,8 +16,9 @@ use crate::name_table::NameTable;
 use crate::scope::{
     BufferInfo, FunctionInfo, Names, ParamInfo, Scope, Sort, VariableInfo, VariableRoot,
 };
-use crate::structs::MemberTable;
+use crate::structs::{MemberTable, Structs};
 use base_core::{NoMemory, Sequence, Text, Words};
+use hl_lexer::Token;
 use hl_meaning::{Constant, HlType, Variable, Variables};
 use std::alloc::Global;
 use std::mem;
@@ -58,6 +60,28 @@ fn take_innermost<'a>(alloc: Global, blocks: &mut Vec<Names<'a>>) -> Names<'a>
 }
 
 impl<'a> Scope<'a> {
+    /// What is known before the first declaration, of these tokens and the entry of this name.
+    pub fn new(alloc: Global, tokens: &'a [Token<'a>], entry: &'a [u8]) -> Scope<'a>
+        ensures scope { scope_of result ≡ first_scope (map lexeme_of tokens.now) entry.now }
+        ensures held { held_of result ≡ nothing_held }
+    {
+        Scope {
+            tokens,
+            entry,
+            structs: Structs::new(alloc),
+            buffers: Sequence::new(alloc),
+            functions: NameTable::new(alloc),
+            shared: Sequence::new(alloc),
+            constants: Sequence::new(alloc),
+            globals: NameTable::new(alloc),
+            blocks: Vec::new(alloc),
+            variables: Sequence::new(alloc),
+            in_loop: false,
+            inside: None,
+            result: None,
+        }
+    }
+
     /// Goes into a block.
     ///
     /// # Errors

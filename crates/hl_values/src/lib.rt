@@ -2,8 +2,10 @@
 #![tactic(auto)]
 
 mod basic;
+mod constants;
 mod declare;
 mod forms;
+mod known;
 mod lookup;
 mod name_table;
 mod nodes;
@@ -25,9 +27,7 @@ pub use forms::{
     index_expr, indexed_code, literal, member_code, signed_code, step_code, swizzled_code,
 };
 pub use name_table::NameTable;
-pub use nodes::{
-    converted, converted_code, converted_each, in_kind, location, node, value_node,
-};
+pub use nodes::{converted, converted_code, converted_each, in_kind, location, node, value_node};
 pub use operators::{
     Operator, choice_type, common_of, common_type, is_basic, is_no_operand, is_numeric,
     negated_type, operand_of, signed_type, valued,

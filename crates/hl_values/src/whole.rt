@@ -1,11 +1,9 @@
 //! Whole expressions, of what is known of their operands: what is known of them, and the typing rules that they break.
 
 ghost use Rattle.std.specs.Prelude.{◌≡◌, IfOk, None, OnOk, Option};
-ghost use Rattle.hl_meaning.specs.Views.{plain_ty};
 ghost use Rattle.hl_parser.specs.Trees.{a_binary, a_choice, a_postfix, a_unary, absent, an_expr, at_of, present};
 ghost use Rattle.hl_parser.specs.Views.{plain_maybe, plain_of};
 ghost use Rattle.hl_rules.specs.declared.found.Broken.{Broken as BrokenRule};
-ghost use Rattle.hl_rules.specs.Constants as constants;
 ghost use Rattle.hl_rules.specs.Rules.{noted};
 ghost use Rattle.hl_rules.specs.Sites.{expression_sites};
 ghost use Rattle.hl_rules.specs.Source as source;
@@ -48,34 +46,6 @@ pub(crate) fn whole_binary(
     binary(scope, operator, at, mark, first, second, alloc)
 }
 
-/// The type of a tree of the production `basic`.
-fn basic_type(scope: &Scope, basic: &Tree) -> HlType
-    ensures { plain_ty result ≡ constants.basic_type (scope_of scope.now) (plain_of basic.now) }
-{
-    word_type(scope.terminal_at(basic.at()))
-}
-
-/// The type that a word says, and no value for any other token.
-fn word_type(word: Terminal) -> HlType
-    ensures { plain_ty result ≡ constants.word_type word }
-{
-    match word {
-        Terminal::Bool => HlType::Scalar(Kind::Bool),
-        Terminal::Int => HlType::Scalar(Kind::Int),
-        Terminal::Uint => HlType::Scalar(Kind::Uint),
-        Terminal::Bool2 => HlType::Vector(Kind::Bool, 2),
-        Terminal::Bool3 => HlType::Vector(Kind::Bool, 3),
-        Terminal::Bool4 => HlType::Vector(Kind::Bool, 4),
-        Terminal::Int2 => HlType::Vector(Kind::Int, 2),
-        Terminal::Int3 => HlType::Vector(Kind::Int, 3),
-        Terminal::Int4 => HlType::Vector(Kind::Int, 4),
-        Terminal::Uint2 => HlType::Vector(Kind::Uint, 2),
-        Terminal::Uint3 => HlType::Vector(Kind::Uint, 3),
-        Terminal::Uint4 => HlType::Vector(Kind::Uint, 4),
-        _ => HlType::Void,
-    }
-}
-
 /// A cast, or an operator before an operand, behind the sites of the operand.
 pub(crate) fn whole_unary(
     scope: &Scope,
@@ -92,7 +62,7 @@ pub(crate) fn whole_unary(
 {
     match basic {
         Some(basic) => {
-            let ty = basic_type(scope, basic.get());
+            let ty = scope.basic_type(basic.get());
             note_use(&value, operand.at(), found);
             note_cast(&value, &ty, at, found);
             cast(ty, value, alloc)

@@ -2,7 +2,6 @@
 
 ghost use Rattle.std.specs.Prelude.{◌≡◌, ◌||◌, if◌then◌else◌, IfOk, None, Some, option_and_then, option_map};
 ghost use Rattle.hl_meaning.specs.Views.{plain_ty};
-ghost use Rattle.hl_rules.specs.Constants.{combined, sum_of};
 ghost use Rattle.hl_rules.specs.Expressions.{prefix_code, step_code};
 ghost use Rattle.hl_rules.specs.Nodes.{a_value_code, converted_code};
 ghost use Rattle.hl_rules.specs.Operands.{choice_type, of_three, of_two, operator_type};
@@ -13,6 +12,7 @@ ghost use Rattle.hl_values.specs.ScopeViews.{scope_of};
 ghost use Rattle.hl_values.specs.Views.{plain_code_if, plain_type_if};
 
 use crate::basic::is_void;
+use crate::constants::combined;
 use crate::forms::{assignment_code, binary_code, choice_code, signed_code, step_code};
 use crate::nodes::converted_code;
 use crate::operators::{
@@ -24,25 +24,6 @@ use base_core::NoMemory;
 use hl_lexer::Terminal;
 use hl_meaning::HlType;
 use std::alloc::Global;
-
-/// A sum, a difference or a product, by its mark, where it is from 0 to 4294967295.
-fn sum_of(mark: Terminal, a: u32, b: u32) -> Option<u32>
-    ensures { result ≡ sum_of mark a b }
-{
-    match mark {
-        Terminal::Plus => a.checked_add(b),
-        Terminal::Minus => a.checked_sub(b),
-        Terminal::Star => a.checked_mul(b),
-        _ => None,
-    }
-}
-
-/// The constant number that two constant numbers are together.
-fn combined(mark: Terminal, a: Option<u32>, b: Option<u32>) -> Option<u32>
-    ensures { result ≡ combined mark a b }
-{
-    sum_of(mark, a?, b?)
-}
 
 /// A value that is no place and no constant number.
 pub(crate) fn value(ty: Option<HlType>, code: Option<Code>) -> Typed

@@ -17,6 +17,7 @@ ghost use Rattle.hl_values.specs.ScopeViews.{plain_sort, plain_sort_if, plain_va
 ghost use Rattle.hl_values.specs.ScopeViews as views;
 ghost use Rattle.hl_values.specs.Views.{plain_code_if, plain_type_if};
 
+use crate::constants::copied_if;
 use crate::forms::literal;
 use crate::parts::value;
 use crate::nodes::location;
@@ -104,22 +105,12 @@ fn variable_code(
     Ok(Some(Code::Place { at, place }))
 }
 
-/// A copy of a type, if there is one.
-pub(crate) fn copied_if(ty: &Option<HlType>, alloc: Global) -> Result<Option<HlType>, NoMemory>
-    ensures { IfOk result (λ copy. plain_type_if copy ≡ plain_type_if ty.now) }
-{
-    match ty {
-        Some(ty) => Ok(Some(ty.copied(alloc)?)),
-        None => Ok(None),
-    }
-}
-
 /// A variable.
 fn variable(variable: &VariableInfo, at: usize, alloc: Global) -> Result<Typed, NoMemory>
     ensures { IfOk result (λ t. plain_known t ≡ known (sort_value (Some (a_variable_name (plain_variable variable.now)))) variable.now.number (variable_code at (Some (a_variable_name (plain_variable variable.now))))) }
 {
     let code = variable_code(variable, at, alloc)?;
-    let ty = copied_if(&variable.ty, alloc)?;
+    let ty = copied_if(alloc, &variable.ty)?;
     Ok(Typed {
         ty,
         standing: Standing::Place {

@@ -3,7 +3,13 @@ use Rattle.std.proofs.Common.{◌≡◌, ◌∙◌, refl, sym, ap, ℕ, List, []
 use Rattle.hl_lexer.specs.declared.terminal.Terminal.{Terminal}
 use Rattle.hl_lexer.specs.declared.terminal.Terminal.TheVariants as terminals
 use Rattle.hl_parser.specs.Trees.{Tree, absent, present, a_binary, a_choice, a_postfix, a_unary, an_expr, at_of}
-use Rattle.hl_meaning.specs.Types.{Ty}
+use Rattle.hl_meaning.specs.declared.ty.Kind.{Kind}
+use Rattle.hl_meaning.specs.declared.ty.HlType.TheVariants.{Scalar}
+use Rattle.hl_meaning.specs.Trees.{literal_form}
+use Rattle.hl_meaning.specs.Types.{Ty, scalar_type}
+use Rattle.hl_meaning.specs.Views.{plain_ty}
+use Rattle.hl_meaning.proofs.Plain.{plain_ty-Scalar}
+use Rattle.hl_rules.specs.Nodes.{Code, a_value}
 use Rattle.hl_rules.specs.declared.found.Broken.{Broken}
 use Rattle.hl_rules.specs.Constants.{basic_type}
 use Rattle.hl_rules.specs.Operands.{of_two, operator_type}
@@ -12,7 +18,7 @@ use Rattle.hl_rules.specs.Rules.{noted}
 use Rattle.hl_rules.specs.Scopes.{Scope}
 use Rattle.hl_rules.specs.Sites.{assignment_sites, compound_production, expression_sites, operated, prefix_sites, used}
 use Rattle.hl_rules.specs.Source.{terminal_at}
-use Rattle.hl_rules.specs.Values.{Value, type_in, value_of}
+use Rattle.hl_rules.specs.Values.{Value, plain_value, type_in, value_of}
 use Rattle.hl_rules.proofs.Noting.{noted-append, noted-cast, noted-conversion, noted-first, noted-written_side}
 use Rattle.hl_values.specs.declared.typed.Typed.{Typed}
 use Rattle.hl_values.specs.Known.{assignment_known, binary_known, cast_known, choice_known, known, known_of, plain_known, prefix_known, step_known}
@@ -138,3 +144,15 @@ assigned-there mark old whole new s l r left right left_at right_at typed_left t
     (ap (λ v. noted_assigned whole mark (value_of s l) v left_at right_at) typed_right.value ∙
     (ap (λ n. noted_assigned whole mark (value_of s l) (value_of s r) n right_at) same_left ∙
     ap (λ n. noted_assigned whole mark (value_of s l) (value_of s r) (at_of l) n) same_right))))
+
+-- ---- words
+
+pub number-known : (kind : Kind) (n m at : ℕ) (ty : Ty) (code : Option Code) → scalar_type kind ≡ ty → n ≡ m → code ≡ a_value (plain_ty (Scalar kind)) at (literal_form n) → known (plain_value (Some (plain_ty (Scalar kind)))) (Some n) code ≡ known (plain_value (Some ty)) (Some m) (a_value ty at (literal_form m))
+number-known kind n m at ty code h k e =
+    let t : plain_ty (Scalar kind) ≡ ty = plain_ty-Scalar kind ∙ h in
+    ap (λ x. known (plain_value (Some (plain_ty (Scalar kind)))) (Some n) x) e ∙
+    (ap (λ x. known (plain_value (Some x)) (Some n) (a_value x at (literal_form n))) t ∙
+    ap (λ x. known (plain_value (Some ty)) (Some x) (a_value ty at (literal_form x))) k)
+
+pub known-parts : (v w : Value) (m n : Option ℕ) (c d : Option Code) → v ≡ w → m ≡ n → c ≡ d → known v m c ≡ known w n d
+known-parts v w m n c d h k e = ap (λ x. known x m c) h ∙ (ap (λ x. known w x c) k ∙ ap (λ x. known w n x) e)

@@ -1,6 +1,6 @@
 //! What is known of expressions, from what is known of their parts.
 
-ghost use Rattle.std.specs.Prelude.{◌≡◌, ◌||◌, if◌then◌else◌, IfOk, None, Some, option_and_then, option_map};
+ghost use Rattle.std.specs.Prelude.{◌≡◌, ◌||◌, if◌then◌else◌, IfOk, None, Some, option_and_then, option_map, true};
 ghost use Rattle.hl_meaning.specs.Views.{plain_ty};
 ghost use Rattle.hl_rules.specs.Expressions.{prefix_code, step_code};
 ghost use Rattle.hl_rules.specs.Nodes.{a_value_code, converted_code};

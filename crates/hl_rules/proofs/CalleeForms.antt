@@ -3,6 +3,7 @@ use Rattle.std.proofs.Common.{◌≡◌, ◌∙◌, ◌⊎◌, inl, inr, refl, s
 use Rattle.std.specs.Prelude.{option_and_then, option_map, unwrap_or}
 use Rattle.std.specs.List.{All}
 use Rattle.std.proofs.lemmas.List.Elements.{All-cons, All-nil}
+use Rattle.std.proofs.lemmas.Option.{same_Some}
 use Rattle.hl_lexer.specs.Tokens.{Lexeme}
 use Rattle.hl_parser.specs.Trees.{Tree, Trees, a_param, more_trees, no_trees}
 use Rattle.hl_meaning.specs.Places as places
@@ -22,18 +23,18 @@ use Rattle.hl_rules.proofs.Fitting.{FitsFunction, IsKnownFunction, param_for}
 use Rattle.hl_rules.proofs.FunctionEntry.{made_function}
 use Rattle.hl_rules.proofs.InputForms.{copying-tokens, param-tokens}
 use Rattle.hl_rules.proofs.LayoutForms.{get-next}
-use Rattle.hl_rules.proofs.Options.{some-same}
 use Rattle.hl_rules.proofs.ParamForms.{AreTypedParams}
 use Rattle.hl_rules.proofs.StructForms.{IsKnownType, known_words}
 use Rattle.hl_rules.proofs.TreeShapes.{AllTrees, IsParam}
 use Rattle.hl_rules.proofs.ShortTypes.{declared-result}
+use Rattle.hl_rules.proofs.Options.{length-one}
 
 -- the parameters with their types
 abbrev pub passed_of : (s : Scope) (params : Trees) → AreTypedParams s params → List Param
 passed_of s no_trees typed = []
 passed_of s (more_trees first rest) typed = record { ty = typed.0.type; copying = param_copying s first } ∷ passed_of (after_param s first) rest typed.1
 
-pub passed-known : (s : Scope) (params : Trees) (typed : AreTypedParams s params) → params_known (params_info s params) ≡ Some (passed_of s params typed)
+passed-known : (s : Scope) (params : Trees) (typed : AreTypedParams s params) → params_known (params_info s params) ≡ Some (passed_of s params typed)
 passed-known s no_trees typed = refl
 passed-known s (more_trees first rest) typed =
     ap (λ o. option_and_then (λ ty. option_map (λ more. record { ty = ty; copying = param_copying s first } ∷ more) (params_known (params_info (after_param s first) rest))) o) typed.0.is
@@ -47,12 +48,8 @@ passed-declared structs s tokens (more_trees (a_param at constant direction type
     (passed-declared structs (after_param s (a_param at constant direction type declarator semantic)) tokens rest typed.1 shape.1 declared)
 passed-declared structs s tokens (more_trees other rest) typed shape declared = absurd shape.0
 
-length-one : (xs : List Variable) (x : Variable) → length (xs ++ x ∷ []) ≡ suc (length xs)
-length-one [] x = refl
-length-one (y ∷ xs) x = ap suc (length-one xs x)
-
 -- the parameters of the program's function are these
-pub callee-params : (s t : Scope) (tokens : List Lexeme) (pre more : List Variable) (number : ℕ) (params : Trees) (typed : AreTypedParams t params) → number ≡ length pre → t.tokens ≡ s.tokens → AllTrees (IsParam tokens) params → map (param_of (pre ++ (param_variables t params ++ more))) (parameters_from s number params) ≡ map param_for (passed_of t params typed)
+callee-params : (s t : Scope) (tokens : List Lexeme) (pre more : List Variable) (number : ℕ) (params : Trees) (typed : AreTypedParams t params) → number ≡ length pre → t.tokens ≡ s.tokens → AllTrees (IsParam tokens) params → map (param_of (pre ++ (param_variables t params ++ more))) (parameters_from s number params) ≡ map param_for (passed_of t params typed)
 callee-params s t tokens pre more number no_trees typed n e shape = refl
 callee-params s t tokens pre more number (more_trees (a_param at constant direction type declarator semantic) rest) typed n e shape =
     ap (λ o. option_map (λ ty. record { ty = ty; copying = copying_of s direction }) o ∷ map (param_of (pre ++ (first ∷ (param_variables behind rest ++ more)))) (parameters_from s (suc number) rest)) there
@@ -97,10 +94,10 @@ pub function-fits : (env : places.Scope) (s : Scope) (tokens : List Lexeme) (res
 function-fits env s tokens result name params block body typed known shape declared = record {
   params = λ passed e.
       subst (λ l. (callee_params (Some (made_function s result name params block known.type body)) ≡ map param_for l) × All (λ (p : Param). IsDeclared env.structs p.ty) l)
-      (some-same (passed_of (at_params s result) params typed) passed (sym (passed-known (at_params s result) params typed) ∙ e))
+      (same_Some (passed_of (at_params s result) params typed) passed (sym (passed-known (at_params s result) params typed) ∙ e))
       (callee-params s (at_params s result) tokens [] (body_variables (in_body s result name params) block) 0 params typed refl refl shape, passed-declared env.structs (at_params s result) tokens params typed shape declared);
   result = λ ty e. (
-    ap (λ t. Some t) (some-same known.type ty (sym known.is ∙ e)),
-    subst (λ t. IsResult env.structs t) (some-same known.type ty (sym known.is ∙ e)) (known-result env.structs s (result_type s result) known declared),
+    ap (λ t. Some t) (same_Some known.type ty (sym known.is ∙ e)),
+    subst (λ t. IsResult env.structs t) (same_Some known.type ty (sym known.is ∙ e)) (known-result env.structs s (result_type s result) known declared),
   );
 }

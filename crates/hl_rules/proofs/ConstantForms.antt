@@ -15,9 +15,9 @@ use Rattle.hl_rules.specs.Elaboration.{init_words, leaf_word, leaf_words, negati
 use Rattle.hl_rules.specs.Expressions.{with_two}
 use Rattle.hl_rules.specs.Scopes.{Scope}
 use Rattle.hl_rules.specs.Source.{terminal_at}
+use Rattle.hl_rules.proofs.TypeLemmas.{and-left, and-right}
 use Rattle.hl_rules.proofs.ConstantNumbers.{number-fits}
 use Rattle.hl_rules.proofs.Fitting.{IsKnown}
-use Rattle.hl_rules.proofs.Options.{and-one, and-other}
 
 -- a word of 32 bits
 pub record IsWordThere (found : Option ℕ) : Type 0 where
@@ -43,7 +43,7 @@ negative-there (Some n) e = record { word = negative n; is = refl; fits = negati
 
 signed-there : (s : Scope) (leaf : Tree) → is_signed_or_truth s leaf ≡ true → IsWordThere (signed_or_truth s leaf)
 signed-there s (a_primary at absent absent) e = truth-there (terminal_at s.tokens at) e
-signed-there s (a_unary at absent operand) e = negative-there (constant_number s operand) (and-other (is_minus (terminal_at s.tokens at)) (is_some (constant_number s operand)) e)
+signed-there s (a_unary at absent operand) e = negative-there (constant_number s operand) (and-right (is_minus (terminal_at s.tokens at)) (is_some (constant_number s operand)) e)
 signed-there s other e = absurd (cc e)
 
 leaf-signed : (s : Scope) (leaf : Tree) → constant_number s leaf ≡ None → leaf_word s leaf ≡ signed_or_truth s leaf
@@ -99,8 +99,8 @@ mutual
   inits-leaves : (s : Scope) (inits : Trees) → are_constant_inits s inits ≡ true → AreConstantLeaves s (leaves_among inits)
   inits-leaves s no_trees e = tt
   inits-leaves s (more_trees first rest) e =
-      leaves-join s (leaves_of first) (leaves_among rest) (init-leaves s first (and-one (is_constant_init s first) (are_constant_inits s rest) e))
-      (inits-leaves s rest (and-other (is_constant_init s first) (are_constant_inits s rest) e))
+      leaves-join s (leaves_of first) (leaves_among rest) (init-leaves s first (and-left (is_constant_init s first) (are_constant_inits s rest) e))
+      (inits-leaves s rest (and-right (is_constant_init s first) (are_constant_inits s rest) e))
 
 leaves-there : (s : Scope) → IsKnown s → (kinds : List Kind) (leaves : List Tree) → length leaves ≡ length kinds → AreConstantLeaves s leaves → HasWords kinds (leaf_words s kinds leaves)
 leaves-there s known [] [] e ready = record { words = []; is = refl; hold = tt }

@@ -1,6 +1,7 @@
 -- Constant numbers are words of 32 bits, and those of an initialiser are the same before the constant is declared.
 use Rattle.std.proofs.Common.{◌≡◌, ◌∙◌, refl, sym, ap, subst, arith, ℕ, ◌+◌, ◌-◌, ◌*◌, ◌≤◌, Bool, true, false, if◌then◌else◌, nat_le, List, [], ◌∷◌, ◌++◌, Option, None, Some}
 use Rattle.std.specs.Prelude.{bytes_eq}
+use Rattle.std.proofs.lemmas.Option.{same_Some}
 use Rattle.hl_lexer.specs.declared.terminal.Terminal.{Terminal}
 use Rattle.hl_lexer.specs.declared.terminal.Terminal.TheVariants as terminals
 use Rattle.hl_lexer.specs.Numbers.{greatest_number}
@@ -12,12 +13,12 @@ use Rattle.hl_rules.specs.Expressions.{first_number}
 use Rattle.hl_rules.specs.Scopes.{Named, Scope, Sort, VariableInfo, a_buffer_name, a_function_name, a_struct_name, a_variable_name, declared_among, declared_in, sort_at, sort_of, spelled}
 use Rattle.hl_rules.specs.Source.{number_at, terminal_at}
 use Rattle.hl_rules.proofs.Fitting.{IsKnown}
-use Rattle.hl_rules.proofs.Options.{no-more, some-same}
+use Rattle.hl_rules.proofs.Options.{no-more}
 
 -- ---- words of 32 bits
 
 if-some : (b : Bool) (m n : ℕ) → (if b then Some m else None) ≡ Some n → (b ≡ true) × (m ≡ n)
-if-some true m n e = (refl, some-same m n e)
+if-some true m n e = (refl, same_Some m n e)
 if-some false m n e = absurd (cc e)
 
 sum-fits : (terminal : Terminal) (a b n : ℕ) → a ≤ greatest_number → sum_of terminal a b ≡ Some n → n ≤ greatest_number
@@ -45,7 +46,7 @@ sort-fits (Some (a_buffer_name number)) n h e = absurd (cc e)
 sort-fits (Some a_function_name) n h e = absurd (cc e)
 
 word-fits : (s : Scope) → IsKnown s → (terminal : Terminal) (index n : ℕ) → word_number s terminal index ≡ Some n → n ≤ greatest_number
-word-fits s known terminals.Number index n e = subst (λ x. x ≤ greatest_number) (some-same (number_at s.tokens index) n e) (known.tokens.numbers index)
+word-fits s known terminals.Number index n e = subst (λ x. x ≤ greatest_number) (same_Some (number_at s.tokens index) n e) (known.tokens.numbers index)
 word-fits s known terminals.Name index n e = sort-fits (sort_at s index) n (λ v m h k. known.numbers (spelled s index) v m h k) e
 word-fits s known other index n e = absurd (cc e)
 

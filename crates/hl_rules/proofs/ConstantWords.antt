@@ -26,7 +26,7 @@ no-number : (number : Bool) (o : Option ℕ) → o ≡ None → (if number then 
 no-number true o e = e
 no-number false o e = refl
 
-if-there : (number : Bool) (o : Option ℕ) (n : ℕ) → (if number then o else None) ≡ Some n → o ≡ Some n
+pub if-there : (number : Bool) (o : Option ℕ) (n : ℕ) → (if number then o else None) ≡ Some n → o ≡ Some n
 if-there true o n e = e
 if-there false o n e = absurd (cc e)
 

@@ -21,7 +21,7 @@ walk-several tokens production P one no_trees = λ from to h read. absurd h
 walk-several tokens production P one (more_trees first rest) =
     walk-map tokens _ (λ r. (refl, r)) (walk-then tokens _ _ (one first) (walk-each tokens production P one rest))
 
-pub walk-commas-of : (tokens : List Lexeme) (production : ℕ) (P : Tree → Type 0) → ((tree : Tree) → Walks tokens (Spells production tree) (P tree)) → (trees : Trees) → Walks tokens (Commas production trees) (AllTrees P trees)
+walk-commas-of : (tokens : List Lexeme) (production : ℕ) (P : Tree → Type 0) → ((tree : Tree) → Walks tokens (Spells production tree) (P tree)) → (trees : Trees) → Walks tokens (Commas production trees) (AllTrees P trees)
 walk-commas-of tokens production P one no_trees = walk-nothing tokens tt
 walk-commas-of tokens production P one (more_trees first rest) =
     walk-behind tokens terminals.Comma _ (walk-then tokens _ _ (one first) (walk-commas-of tokens production P one rest))
@@ -100,7 +100,7 @@ mutual
       (walk-behind tokens terminals.Comma _ (walk-mark tokens terminals.CloseBrace))))))
   walk-init tokens tree = λ from to h read. absurd (let e = stands-itself 12 (production_of tree) (omega arith) (stands tree 12 from to h) in omega (arith, e))
 
-  pub walk-inits : (tokens : List Lexeme) (trees : Trees) → Walks tokens (Listed 12 trees) (IsTrue (are_some trees) × AreInits tokens trees)
+  walk-inits : (tokens : List Lexeme) (trees : Trees) → Walks tokens (Listed 12 trees) (IsTrue (are_some trees) × AreInits tokens trees)
   walk-inits tokens no_trees = λ from to h read. absurd h
   walk-inits tokens (more_trees first rest) =
       walk-map tokens _ (λ r. (refl, r)) (walk-then tokens _ _ (walk-init tokens first) (walk-more_inits tokens rest))
@@ -110,7 +110,7 @@ mutual
   walk-more_inits tokens (more_trees first rest) =
       walk-behind tokens terminals.Comma _ (walk-then tokens _ _ (walk-init tokens first) (walk-more_inits tokens rest))
 
-pub walk-init_is : (tokens : List Lexeme) (init : Maybe) → Walks tokens (InitIs init) (IfTree (IsInit tokens) init)
+walk-init_is : (tokens : List Lexeme) (init : Maybe) → Walks tokens (InitIs init) (IfTree (IsInit tokens) init)
 walk-init_is tokens absent = walk-nothing tokens tt
 walk-init_is tokens (present init) = walk-behind tokens terminals.Equals _ (walk-init tokens init)
 

@@ -4,6 +4,7 @@ use Rattle.std.specs.Prelude.{◌&&◌, ◌||◌, bytes_eq, option_map}
 use Rattle.std.specs.List.{list_any}
 use Rattle.std.proofs.lemmas.List.{append-nil}
 use Rattle.std.proofs.lemmas.List.Folds.{list_any-append}
+use Rattle.std.proofs.lemmas.Option.{same_Some}
 use Rattle.hl_lexer.specs.Tokens.{Lexeme}
 use Rattle.hl_parser.specs.Trees.{Tree, Trees, a_buffer, a_constant, a_function, a_shared, a_struct, an_item, more_trees, no_trees}
 use Rattle.hl_meaning.specs.Programs.{FunctionDef}
@@ -14,7 +15,7 @@ use Rattle.hl_rules.specs.Sites.{is_entry, item_sites, items_sites}
 use Rattle.hl_rules.proofs.Free.{IsFree, free-left, free-right, not_broken}
 use Rattle.hl_rules.proofs.FunctionEntry.{IsFreeFunction, free-function}
 use Rattle.hl_rules.proofs.ItemForms.{IsOther, is_function-any, is_named, no-list, other-buffer, other-constant, other-shared, other-struct}
-use Rattle.hl_rules.proofs.Options.{IsMapped, IsOfTwo, mapped-there, same-text, some-same, two-there}
+use Rattle.hl_rules.proofs.Options.{IsMapped, IsOfTwo, mapped-there, same-text, two-there}
 use Rattle.hl_rules.proofs.TreeShapes.{AllTrees, IsItem}
 
 pub free-item : (s : Scope) (first : Tree) (rest : Trees) → IsFree (items_sites s (more_trees first rest)) → IsFree (item_sites s first)
@@ -25,12 +26,8 @@ free-items s first rest free = free-right (item_sites s first) (items_sites (aft
 
 -- ---- whether a function is the entry
 
-and-false : (a : Bool) → a && false ≡ false
-and-false true = refl
-and-false false = refl
-
 -- behind the entry none is
-pub no-entry : (s : Scope) (name : ℕ) → is_function s s.entry ≡ true → bytes_eq (spelled s name) s.entry && is_function s s.entry ≡ false → (bytes_eq (spelled s name) s.entry ≡ false)
+no-entry : (s : Scope) (name : ℕ) → is_function s s.entry ≡ true → bytes_eq (spelled s name) s.entry && is_function s s.entry ≡ false → (bytes_eq (spelled s name) s.entry ≡ false)
 no-entry s name e h = on (bytes_eq (spelled s name) s.entry) (ap (λ b. bytes_eq (spelled s name) s.entry && b) (sym e) ∙ h)
   where
     on : (named : Bool) → named && true ≡ false → named ≡ false
@@ -62,7 +59,7 @@ function-made s result name params block rest defs e = record {
   made = own.is;
   others = parts.other;
   behind = parts.is_other;
-  is = ap (λ l. l ++ parts.other) own.gives ∙ some-same (parts.one ++ parts.other) defs parts.gives;
+  is = ap (λ l. l ++ parts.other) own.gives ∙ same_Some (parts.one ++ parts.other) defs parts.gives;
 }
   where
     parts : IsOfTwo (λ a b. Some (a ++ b)) (option_map (λ (f : FunctionDef). f ∷ []) (function_def s result name params block)) (all_of_items item_functions (with_function s result name params) rest) defs

@@ -1,6 +1,6 @@
 -- The parameters of an entry that breaks no rule are inputs, and no two have one semantic.
 use Rattle.std.proofs.Common.{◌≡◌, ◌∙◌, refl, sym, ap, subst, ℕ, suc, Bool, true, false, List, [], ◌∷◌, ◌++◌, map, length, Option, Some, append_assoc}
-use Rattle.std.specs.Prelude.{◌==◌, ◌||◌, not, ◌&&◌, slice_get, option_map, unwrap_or}
+use Rattle.std.specs.Prelude.{◌==◌, ◌||◌, not, ◌&&◌, option_map, unwrap_or}
 use Rattle.std.specs.List.{All, list_any}
 use Rattle.std.proofs.lemmas.List.Elements.{All-cons, All-nil}
 use Rattle.hl_lexer.specs.Tokens.{Lexeme}
@@ -21,16 +21,10 @@ use Rattle.hl_rules.specs.Sites.{and_tree, params_sites}
 use Rattle.hl_rules.proofs.Free.{IsFree}
 use Rattle.hl_rules.proofs.InputForms.{AreKnownParams, IsInputParam, among-tokens, copying-tokens, first-input, free-params, param-tokens, param_semantic-tokens}
 use Rattle.hl_rules.proofs.TreeShapes.{AllTrees, IsParam}
+use Rattle.hl_rules.proofs.Options.{length-one, or-true}
+use Rattle.hl_rules.proofs.LayoutForms.{get-next}
 
 -- ---- the variables of parameters
-
-get-seam : (xs : List Variable) (y : Variable) (ys : List Variable) → slice_get (xs ++ y ∷ ys) (length xs) ≡ Some y
-get-seam [] y ys = refl
-get-seam (x ∷ xs) y ys = get-seam xs y ys
-
-length-one : (xs : List Variable) (x : Variable) → length (xs ++ x ∷ []) ≡ suc (length xs)
-length-one [] x = refl
-length-one (y ∷ xs) x = ap suc (length-one xs x)
 
 -- ---- inputs
 
@@ -45,7 +39,7 @@ input-kept s t pre more number before at constant direction type declarator sema
     there : variable_type (pre ++ declared_variable t (named_type t type) declarator ∷ more) number ≡ Some ty
     there =
         ap (λ place. variable_type (pre ++ declared_variable t (named_type t type) declarator ∷ more) place) n
-        ∙ (ap (λ o. option_map (λ (v : Variable). v.ty) o) (get-seam pre (declared_variable t (named_type t type) declarator) more)
+        ∙ (ap (λ o. option_map (λ (v : Variable). v.ty) o) (get-next pre (declared_variable t (named_type t type) declarator) more)
         ∙ ap (λ o. Some (unwrap_or o void_type)) k)
 
 pub inputs-there : (s t : Scope) (tokens : List Lexeme) (pre more : List Variable) (number : ℕ) (before params : Trees) → number ≡ length pre → t.tokens ≡ s.tokens → AllTrees (IsParam tokens) params → AreKnownParams t params → IsFree (params_sites t true before params) → All (IsInput (pre ++ (param_variables t params ++ more))) (parameters_from s number params)
@@ -82,10 +76,6 @@ same-semantic DispatchThreadId = refl
 same-semantic GroupId = refl
 same-semantic GroupThreadId = refl
 same-semantic GroupIndex = refl
-
-or-true : (a : Bool) → a || true ≡ true
-or-true true = refl
-or-true false = refl
 
 among-more : (s : Scope) (semantic : Semantic) (before : Trees) (tree : Tree) → is_semantic_among s semantic before ≡ true → is_semantic_among s semantic (and_tree before tree) ≡ true
 among-more s semantic no_trees tree e = absurd (cc e)

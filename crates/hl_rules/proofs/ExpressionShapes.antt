@@ -20,7 +20,7 @@ within : (n : ℕ) → 27 ≤ n → n ≤ 42 → IsExpressionNumber n
 within n from to = record { from = from; to = to }
 
 mutual
-  pub walk-expression : (tokens : List Lexeme) (e : Tree) (asked : ℕ) → IsExpressionNumber asked → Walks tokens (Spells asked e) (IsExpression tokens e)
+  walk-expression : (tokens : List Lexeme) (e : Tree) (asked : ℕ) → IsExpressionNumber asked → Walks tokens (Spells asked e) (IsExpression tokens e)
   walk-expression tokens (a_primary at absent absent) asked k = walk-as tokens asked 42 _ (walk-word tokens at is_word)
   walk-expression tokens (a_primary at absent (present arguments)) asked k =
       walk-as tokens asked 42 _
@@ -98,7 +98,7 @@ mutual
   walk-listed tokens (more_trees first rest) =
       walk-then tokens _ _ (walk-expression tokens first 27 (within 27 (omega arith) (omega arith))) (walk-commas tokens rest)
 
-  pub walk-commas : (tokens : List Lexeme) (trees : Trees) → Walks tokens (Commas 27 trees) (AreExpressions tokens trees)
+  walk-commas : (tokens : List Lexeme) (trees : Trees) → Walks tokens (Commas 27 trees) (AreExpressions tokens trees)
   walk-commas tokens no_trees = walk-nothing tokens tt
   walk-commas tokens (more_trees first rest) =
       walk-behind tokens terminals.Comma _

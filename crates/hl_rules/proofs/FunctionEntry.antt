@@ -1,6 +1,7 @@
 -- A function that is the entry and breaks no rule keeps what an entry keeps.
 use Rattle.std.proofs.Common.{◌≡◌, ◌∙◌, refl, sym, subst, ℕ, true, false, List, [], ◌∷◌, ◌++◌, Some}
 use Rattle.std.specs.Prelude.{◌&&◌, not}
+use Rattle.std.proofs.lemmas.Option.{same_Some}
 use Rattle.hl_lexer.specs.Tokens.{Lexeme}
 use Rattle.hl_parser.specs.Trees.{Tree, Trees, a_function, a_result, absent, at_of, no_trees, present}
 use Rattle.hl_meaning.specs.Programs.{FunctionDef}
@@ -17,7 +18,7 @@ use Rattle.hl_rules.specs.Sites.{body_sites, function_attributes_sites, is_entry
 use Rattle.hl_rules.proofs.EntryParams.{distinct-there, inputs-there}
 use Rattle.hl_rules.proofs.Free.{IsFree, Obeys, free-first, free-left, free-rest, free-right, not_broken}
 use Rattle.hl_rules.proofs.InputForms.{AreKnownParams}
-use Rattle.hl_rules.proofs.Options.{IsOfTwo, not-both, some-same, two-there}
+use Rattle.hl_rules.proofs.Options.{IsOfTwo, not-both, two-there}
 use Rattle.hl_rules.proofs.ThreadForms.{HasThreads, threads-there}
 use Rattle.hl_rules.proofs.TreeShapes.{AllTrees, IsParam}
 
@@ -67,8 +68,8 @@ no-result s other e = absurd (cc e)
 -- an entry keeps what an entry keeps
 pub entry-kept : (s : Scope) (tokens : List Lexeme) (attributes : Trees) (result : Tree) (name : ℕ) (params : Trees) (block : Tree) (f : FunctionDef) → is_entry s name ≡ true → IsFreeFunction s attributes result name params block → AllTrees (IsParam tokens) params → AreKnownParams (at_params s result) params → function_def s result name params block ≡ Some f → IsEntry f
 entry-kept s tokens attributes result name params block f e free shape known made =
-    subst (λ g. IsEntry g) (some-same (made_function s result name params block parts.one parts.other) f parts.gives) (record {
-      result = some-same parts.one void_type (sym parts.is_one ∙ no-result s result (not-both (is_entry s name) (is_no_result result) (not_broken (is_entry s name && not (is_no_result result)) (at_of result) free.whole.obeys_16) e));
+    subst (λ g. IsEntry g) (same_Some (made_function s result name params block parts.one parts.other) f parts.gives) (record {
+      result = same_Some parts.one void_type (sym parts.is_one ∙ no-result s result (not-both (is_entry s name) (is_no_result result) (not_broken (is_entry s name && not (is_no_result result)) (at_of result) free.whole.obeys_16) e));
       inputs = inputs-there s (at_params s result) tokens [] (body_variables (in_body s result name params) block) 0 no_trees params refl refl shape known sites;
       distinct = distinct-there s (at_params s result) 0 no_trees params refl known sites;
     })

@@ -2,6 +2,7 @@
 use Rattle.std.proofs.Common.{◌≡◌, ◌∙◌, refl, sym, ap, ℕ, suc, ◌≤◌, Bool, true, false, not, List, length, Some}
 use Rattle.std.specs.Prelude.{◌&&◌, ◌||◌, IsTrue}
 use Rattle.std.specs.List.{All}
+use Rattle.std.proofs.lemmas.Option.{same_Some}
 use Rattle.hl_lexer.specs.Tokens.{Lexeme}
 use Rattle.hl_parser.specs.Trees.{Tree, Trees, a_block, a_param, a_result, absent, more_trees, no_trees, present}
 use Rattle.hl_meaning.specs.Places as places
@@ -17,13 +18,13 @@ use Rattle.hl_rules.specs.Sites.{body_sites}
 use Rattle.hl_rules.proofs.Free.{IsFree}
 use Rattle.hl_rules.proofs.JumpForms.{IsInBody}
 use Rattle.hl_rules.proofs.LocalForms.{AreKnownVariables}
-use Rattle.hl_rules.proofs.Options.{not-false, some-same}
 use Rattle.hl_rules.proofs.ProgramScopes.{body_env}
 use Rattle.hl_rules.proofs.StatementForms.{statements-made}
 use Rattle.hl_rules.proofs.StatementParts.{IsMade}
 use Rattle.hl_rules.proofs.StructForms.{IsKnownType}
 use Rattle.hl_rules.proofs.TreeShapes.{AllTrees, IsBlock, IsParam}
 use Rattle.hl_rules.proofs.ValueForms.{ExpressionsBecome}
+use Rattle.hl_rules.proofs.Options.{not-false, or-true}
 
 -- what a function of a program keeps behind these functions
 pub record IsFunctionBehind (env : places.Scope) (functions : List FunctionDef) (f : FunctionDef) : Type 0 where
@@ -54,13 +55,9 @@ pub declared-variables : (structs : List StructDef) (words : List ℕ) (variable
 declared-variables structs words variables declared known = λ k d h. declared _ (known k d h)
 
 pub void-result : (s : Scope) (result : Tree) (ty : Ty) → is_no_result result ≡ true → result_type s result ≡ Some ty → is_void ty ≡ true
-void-result s (a_result at absent) ty e h = ap (λ t. is_void t) (sym (some-same void_type ty h))
+void-result s (a_result at absent) ty e h = ap (λ t. is_void t) (sym (same_Some void_type ty h))
 void-result s (a_result at (present type)) ty e h = absurd (cc e)
 void-result s other ty e h = absurd (cc e)
-
-or-true : (a : Bool) → a || true ≡ true
-or-true true = refl
-or-true false = refl
 
 -- rule 21 says that a function with a result always returns
 pub returns-there : (none returns : Bool) (no_result always : Bool) → not no_result && not always ≡ false → (no_result ≡ true → none ≡ true) → returns ≡ always → none || returns ≡ true

@@ -1,25 +1,23 @@
 -- Indexes among free sites.
-use Rattle.std.proofs.Common.{◌≡◌, ◌∙◌, refl, sym, ap, subst, ℕ, ◌≤◌, Bool, true, false, ◌&&◌, not, if◌then◌else◌, List, [], ◌∷◌, ◌++◌, Option, None, Some}
-use Rattle.std.specs.Prelude.{is_none, is_some, option_and_then, option_map, slice_get}
+use Rattle.std.proofs.Common.{◌≡◌, ◌∙◌, refl, sym, ap, subst, ℕ, true, false, ◌&&◌, not, if◌then◌else◌, List, [], ◌∷◌, ◌++◌, Option, None, Some}
+use Rattle.std.specs.Prelude.{is_none, is_some, option_and_then, slice_get}
 use Rattle.std.proofs.lemmas.Option.{none-some, same_Some}
 use Rattle.hl_lexer.specs.declared.terminal.Terminal.{Terminal}
 use Rattle.hl_lexer.specs.declared.terminal.Terminal.TheVariants as terminals
 use Rattle.hl_parser.specs.Trees.{Tree, a_postfix, a_primary, absent, at_of, present}
 use Rattle.hl_meaning.specs.Types.{Ty, array_type, is_scalar, is_void, scalar_type, struct_type, uint_type, vector_type, void_type}
-use Rattle.hl_meaning.specs.Conversions.{converts}
 use Rattle.hl_meaning.specs.Trees.{Expr, type_of}
 use Rattle.hl_rules.specs.Constants.{constant_number}
-use Rattle.hl_rules.specs.DeclarationRules.{is_known}
 use Rattle.hl_rules.specs.ExpressionRules.{is_not_indexed, is_past, needs_constant_index}
-use Rattle.hl_rules.specs.Expressions.{bare_at, bracketed_code, code_of, index_expr, indexed_code, indexed_into}
-use Rattle.hl_rules.specs.Nodes.{Code, a_place_code, type_of_code}
+use Rattle.hl_rules.specs.Expressions.{bare_at, bracketed_code, code_of, index_expr, indexed_code}
+use Rattle.hl_rules.specs.Nodes.{type_of_code}
 use Rattle.hl_rules.specs.Parts.{Site, an_index, site}
-use Rattle.hl_rules.specs.Scopes.{BufferInfo, Scope, Sort, a_buffer_name, a_function_name, a_struct_name, a_variable_name, sort_at, sort_of, spelled}
+use Rattle.hl_rules.specs.Scopes.{BufferInfo, Scope, Sort, a_buffer_name, a_function_name, a_struct_name, a_variable_name, sort_at, spelled}
 use Rattle.hl_rules.specs.Sites.{buffer_or_used, expression_sites, used}
 use Rattle.hl_rules.specs.Source.{terminal_at}
-use Rattle.hl_rules.specs.Values.{bracketed_value, buffer_at, buffer_named, buffer_sort, buffer_word, element_value, indexed_value, standing_in, type_in, value_of}
+use Rattle.hl_rules.specs.Values.{is_known, bracketed_value, buffer_at, buffer_named, buffer_sort, buffer_word, element_value, indexed_value, standing_in, type_in, value_of}
 use Rattle.hl_rules.proofs.Becoming.{Becomes, IsValueIn, not-true}
-use Rattle.hl_rules.proofs.ConstantNumbers.{constant-small}
+use Rattle.hl_rules.proofs.ConstantNumbers.{number-fits}
 use Rattle.hl_rules.proofs.Fitting.{IsKnown}
 use Rattle.hl_rules.proofs.Free.{IsFree, Obeys, free-first, free-left, free-right, not_broken}
 use Rattle.hl_rules.proofs.IndexForms.{IsIndex, index-there, indexed-becomes, is_indexed, scalar-converts}
@@ -68,7 +66,7 @@ indexed-known void_type e h = absurd (cc e)
 -- what an index among free sites becomes
 index-known : (s : Scope) → IsKnown s → (operand index : Tree) → (b : Known s index) → IsFree (used s index (expression_sites s index)) → Obeys s (an_index operand index) → IsIndex s (constant_number s index) (index_expr (bare_at index) (constant_number s index) b.to)
 index-known s known operand index b free own =
-    index-there s (bare_at index) (constant_number s index) b.to (λ n e. constant-small s known index n e)
+    index-there s (bare_at index) (constant_number s index) b.to (λ n e. number-fits s known index n e)
     (scalar-converts (type_of_code b.to)
     (not-true (is_scalar (type_of_code b.to))
     (sym (ap (λ o. is_known (λ ty. not (is_scalar ty)) o) (type-known s index (type_of_code b.to) b.type (used-of s index (expression_sites s index) b free)))

@@ -14,8 +14,9 @@ use Rattle.hl_rules.specs.Parts.{an_entry_param, site}
 use Rattle.hl_rules.specs.Scopes.{Scope}
 use Rattle.hl_rules.specs.Sites.{and_tree, entry_sites, param_sites, params_sites}
 use Rattle.hl_rules.specs.Source.{terminal_at, text_at}
+use Rattle.hl_rules.proofs.TypeLemmas.{and-left, and-right}
 use Rattle.hl_rules.proofs.Free.{IsFree, free-first, free-left, free-right, not_broken}
-use Rattle.hl_rules.proofs.Options.{and-one, and-other, no-more, not-false, not-true, or-one, or-other}
+use Rattle.hl_rules.proofs.Options.{no-more, not-false, not-holds, or-one, or-other}
 
 -- each parameter has a type
 abbrev pub AreKnownParams : Scope → Trees → Type 0
@@ -24,7 +25,7 @@ AreKnownParams s (more_trees first rest) = ((ty : Ty) × (param_type s first ≡
 
 -- ---- what depends on the tokens alone
 
-pub semantic-tokens : (s t : Scope) (name : Option ℕ) → s.tokens ≡ t.tokens → semantic_if s name ≡ semantic_if t name
+semantic-tokens : (s t : Scope) (name : Option ℕ) → s.tokens ≡ t.tokens → semantic_if s name ≡ semantic_if t name
 semantic-tokens s t None e = refl
 semantic-tokens s t (Some name) e = ap (λ tokens. semantic_named (text_at tokens name)) e
 
@@ -62,9 +63,9 @@ copied_in CopyBoth e = absurd (cc e)
 
 semantic-fits : (semantic : Semantic) (ty : Ty) → is_semantic_type semantic ty ≡ true → HasSemantic semantic ty
 semantic-fits GroupIndex ty e = e
-semantic-fits DispatchThreadId ty e = (and-one (is_numeric ty) (nat_le (component_count ty) 3) e, no-more (component_count ty) 3 (and-other (is_numeric ty) (nat_le (component_count ty) 3) e))
-semantic-fits GroupId ty e = (and-one (is_numeric ty) (nat_le (component_count ty) 3) e, no-more (component_count ty) 3 (and-other (is_numeric ty) (nat_le (component_count ty) 3) e))
-semantic-fits GroupThreadId ty e = (and-one (is_numeric ty) (nat_le (component_count ty) 3) e, no-more (component_count ty) 3 (and-other (is_numeric ty) (nat_le (component_count ty) 3) e))
+semantic-fits DispatchThreadId ty e = (and-left (is_numeric ty) (nat_le (component_count ty) 3) e, no-more (component_count ty) 3 (and-right (is_numeric ty) (nat_le (component_count ty) 3) e))
+semantic-fits GroupId ty e = (and-left (is_numeric ty) (nat_le (component_count ty) 3) e, no-more (component_count ty) 3 (and-right (is_numeric ty) (nat_le (component_count ty) 3) e))
+semantic-fits GroupThreadId ty e = (and-left (is_numeric ty) (nat_le (component_count ty) 3) e, no-more (component_count ty) 3 (and-right (is_numeric ty) (nat_le (component_count ty) 3) e))
 
 pub record IsInputOf (s : Scope) (before : Trees) (found : Option Semantic) (ty : Ty) : Type 0 where
   pub semantic : Semantic
@@ -80,8 +81,8 @@ input-of s before (Some semantic) (Some own) ty e h = record {
   is = refl;
   fits =
       subst (λ t. HasSemantic semantic t) (ap (λ o. unwrap_or o own) e)
-      (semantic-fits semantic own (not-false (is_semantic_type semantic own) (not-true (not (is_semantic_type semantic own)) (and-one (not (not (is_semantic_type semantic own))) (not (is_semantic_among s semantic before)) h))));
-  fresh = not-true (is_semantic_among s semantic before) (and-other (not (not (is_semantic_type semantic own))) (not (is_semantic_among s semantic before)) h);
+      (semantic-fits semantic own (not-false (is_semantic_type semantic own) (not-holds (not (is_semantic_type semantic own)) (and-left (not (not (is_semantic_type semantic own))) (not (is_semantic_among s semantic before)) h))));
+  fresh = not-holds (is_semantic_among s semantic before) (and-right (not (not (is_semantic_type semantic own))) (not (is_semantic_among s semantic before)) h);
 }
 
 input-there : (s : Scope) (before : Trees) (param : Tree) (ty : Ty) → rule_17 s (an_entry_param before param) ≡ [] → param_type s param ≡ Some ty → IsInputParam s before param ty

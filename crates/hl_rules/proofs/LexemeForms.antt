@@ -1,6 +1,5 @@
 -- The tokens of a text: numbers are words of 32 bits, and names have letters.
-use Rattle.std.proofs.Common.{◌≡◌, ◌∙◌, refl, sym, ap, subst, arith, ℕ, zero, suc, ◌≤◌, Bool, true, false, List, [], ◌∷◌, ◌++◌, length, get_or, Option, None, Some}
-use Rattle.std.specs.Prelude.{◌&&◌}
+use Rattle.std.proofs.Common.{◌≡◌, ◌∙◌, refl, sym, ap, subst, arith, ℕ, zero, suc, ◌≤◌, Bool, true, false, List, [], ◌∷◌, ◌++◌, length, get_or}
 use Rattle.std.specs.List.{list_all}
 use Rattle.base_core.specs.declared.place.Place.{Place}
 use Rattle.hl_lexer.specs.declared.terminal.Terminal.{Terminal}
@@ -11,8 +10,8 @@ use Rattle.hl_lexer.specs.Numbers.{greatest_number}
 use Rattle.hl_lexer.specs.Terminals.{mark_terminals, terminal_of, word_terminals}
 use Rattle.hl_lexer.specs.Tokens.{HasRoom, IsCut, IsForm, IsTokenList, Lexeme, Piece, a_space, a_token, bytes_of, lexemes, order_mark}
 use Rattle.hl_rules.specs.Source.{number_at, number_of, terminal_at, text_at}
+use Rattle.hl_rules.proofs.TypeLemmas.{and-left, and-right}
 use Rattle.hl_rules.proofs.Fitting.{AreTokens}
-use Rattle.hl_rules.proofs.Options.{and-one, and-other}
 
 -- ---- kinds
 
@@ -22,8 +21,8 @@ is_no_name _ = true
 
 each-passes : (p : Terminal → Bool) (xs : List Terminal) (n : ℕ) (d : Terminal) → list_all p xs ≡ true → p d ≡ true → p (get_or xs n d) ≡ true
 each-passes p [] n d e h = h
-each-passes p (x ∷ xs) zero d e h = and-one (p x) (list_all p xs) e
-each-passes p (x ∷ xs) (suc n) d e h = each-passes p xs n d (and-other (p x) (list_all p xs) e) h
+each-passes p (x ∷ xs) zero d e h = and-left (p x) (list_all p xs) e
+each-passes p (x ∷ xs) (suc n) d e h = each-passes p xs n d (and-right (p x) (list_all p xs) e) h
 
 -- a token that is a name for the grammar has letters
 name-letters : (kind : TokenKind) (bytes after : List ℕ) → IsForm kind bytes after → terminal_of kind ≡ terminals.Name → 1 ≤ length bytes

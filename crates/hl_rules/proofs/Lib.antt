@@ -1,3 +1,4 @@
+mod FirstLemmas
 pub mod Arguments
 pub mod AtomicCalls
 pub mod AtomicForms
@@ -8,6 +9,7 @@ pub mod BinaryForms
 pub mod BodyForms
 pub mod BuildForms
 pub mod CallForms
+pub mod CallSites
 pub mod CalleeForms
 pub mod Candidates
 pub mod ChoiceForms
@@ -21,8 +23,8 @@ pub mod DeclaratorForms
 pub mod DotForms
 pub mod EntryForms
 pub mod EntryParams
+pub mod ExpressionForms
 pub mod ExpressionShapes
-mod FirstLemmas
 pub mod Fitting
 pub mod Free
 pub mod FunctionEntry
@@ -32,6 +34,7 @@ pub mod FunctionNames
 pub mod Gathering
 pub mod GlobalForms
 pub mod IndexForms
+pub mod IndexSites
 pub mod InitForms
 pub mod InputForms
 pub mod IntrinsicForms
@@ -50,6 +53,7 @@ pub mod ParamForms
 pub mod PathSteps
 pub mod Paths
 pub mod PlaceForms
+pub mod PostfixSites
 pub mod Productions
 pub mod ProgramEntry
 pub mod ProgramForms
@@ -89,5 +93,3 @@ pub mod WholePrograms
 pub mod WordForms
 pub mod WriteForms
 pub mod WriteSites
-pub mod PostfixSites
-pub mod IndexSites

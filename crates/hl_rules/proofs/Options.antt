@@ -1,18 +1,11 @@
--- Options that are there, and tests that pass.
-use Rattle.std.proofs.Common.{◌≡◌, refl, ap, arith, ℕ, ◌≤◌, Bool, true, false, not, nat_le, List, Option, None, Some}
-use Rattle.std.specs.Prelude.{◌&&◌, ◌||◌, bytes_eq, option_map, unwrap_or}
+-- Tests that pass, lists with one more behind them, and options that are there.
+use Rattle.std.proofs.Common.{◌≡◌, refl, ap, arith, ℕ, suc, ◌≤◌, Bool, true, false, not, nat_le, List, [], ◌∷◌, ◌++◌, length, Option, None, Some}
+use Rattle.std.specs.Prelude.{◌&&◌, ◌||◌, bytes_eq, option_map}
 use Rattle.std.proofs.lemmas.Slice.Eq.{bytes_eq-Decides}
+use Rattle.std.proofs.lemmas.Option.{same_Some}
 use Rattle.hl_rules.specs.Expressions.{with_two}
 
 -- ---- tests
-
-pub and-one : (a b : Bool) → a && b ≡ true → a ≡ true
-and-one true b e = refl
-and-one false b e = absurd (cc e)
-
-pub and-other : (a b : Bool) → a && b ≡ true → b ≡ true
-and-other true b e = e
-and-other false b e = absurd (cc e)
 
 pub or-one : (a b : Bool) → a || b ≡ false → a ≡ false
 or-one false b e = refl
@@ -26,18 +19,13 @@ pub not-false : (b : Bool) → not b ≡ false → b ≡ true
 not-false true e = refl
 not-false false e = absurd (cc e)
 
-pub not-true : (b : Bool) → not b ≡ true → b ≡ false
-not-true false e = refl
-not-true true e = absurd (cc e)
+pub not-holds : (b : Bool) → not b ≡ true → b ≡ false
+not-holds false e = refl
+not-holds true e = absurd (cc e)
 
 pub not-both : (a b : Bool) → a && not b ≡ false → a ≡ true → b ≡ true
 not-both true b e h = not-false b e
 not-both false b e h = absurd (cc h)
-
-pub not-and : (a b : Bool) → a && b ≡ false → b ≡ true → a ≡ false
-not-and false b e h = refl
-not-and true true e h = absurd (cc e)
-not-and true false e h = absurd (cc h)
 
 pub no-more : (a b : ℕ) → nat_le a b ≡ true → a ≤ b
 no-more a b e = grind arith
@@ -45,13 +33,17 @@ no-more a b e = grind arith
 pub same-text : (a b : List ℕ) → bytes_eq a b ≡ true → a ≡ b
 same-text a b e = (bytes_eq-Decides a b).0 e
 
-pub text-itself : (a : List ℕ) → bytes_eq a a ≡ true
-text-itself a = (bytes_eq-Decides a a).1 refl
+pub or-true : (a : Bool) → a || true ≡ true
+or-true true = refl
+or-true false = refl
+
+-- ---- lists
+
+pub length-one : {A : Type 0} (xs : List A) (x : A) → length (xs ++ x ∷ []) ≡ suc (length xs)
+length-one [] x = refl
+length-one (y ∷ xs) x = ap suc (length-one xs x)
 
 -- ---- options
-
-pub some-same : {A : Type 0} (x y : A) → Some x ≡ Some y → x ≡ y
-some-same x y e = ap (λ o. unwrap_or o x) e
 
 -- what is there was made of what is there
 pub record IsMapped {A B : Type 0} (f : A → B) (o : Option A) (y : B) : Type 0 where
@@ -61,7 +53,7 @@ pub record IsMapped {A B : Type 0} (f : A → B) (o : Option A) (y : B) : Type 0
 
 pub mapped-there : {A B : Type 0} (f : A → B) (o : Option A) (y : B) → option_map f o ≡ Some y → IsMapped f o y
 mapped-there f None y e = absurd (cc e)
-mapped-there f (Some x) y e = record { from = x; is = refl; gives = some-same (f x) y e }
+mapped-there f (Some x) y e = record { from = x; is = refl; gives = same_Some (f x) y e }
 
 pub record IsOfTwo {A B C : Type 0} (f : A → B → Option C) (a : Option A) (b : Option B) (z : C) : Type 0 where
   pub one : A

@@ -1,38 +1,29 @@
 -- Members, swizzles, indexes and methods among free sites.
-use Rattle.std.proofs.Common.{◌≡◌, ◌∙◌, refl, sym, ap, subst, ℕ, ◌≤◌, Bool, true, false, ◌&&◌, not, if◌then◌else◌, List, [], ◌∷◌, ◌++◌, map, length, Option, None, Some}
-use Rattle.std.specs.Prelude.{is_none, is_some, option_and_then, option_map, slice_get}
-use Rattle.std.proofs.lemmas.Option.{none-some, option_and_then_some, same_Some}
-use Rattle.hl_lexer.specs.declared.terminal.Terminal.{Terminal}
+use Rattle.std.proofs.Common.{◌≡◌, ◌∙◌, refl, sym, ap, subst, ℕ, Bool, true, false, ◌&&◌, not, if◌then◌else◌, List, [], ◌∷◌, ◌++◌, map, Option, None, Some}
+use Rattle.std.specs.Prelude.{is_some, option_and_then, slice_get}
+use Rattle.std.proofs.lemmas.Option.{option_and_then_some}
 use Rattle.hl_lexer.specs.declared.terminal.Terminal.TheVariants as terminals
-use Rattle.hl_lexer.specs.Numbers.{greatest_number}
-use Rattle.hl_parser.specs.Trees.{Tree, Trees, a_postfix, absent, an_args, at_of, present}
-use Rattle.hl_meaning.specs.Types.{Ty, array_type, is_scalar, is_void, scalar_type, struct_type, uint_type, vector_type, void_type}
-use Rattle.hl_meaning.specs.Conversions.{converts}
-use Rattle.hl_meaning.specs.Places as places
-use Rattle.hl_meaning.specs.Trees.{Expr}
+use Rattle.hl_parser.specs.Trees.{Tree, Trees, a_postfix, absent, an_args, present}
+use Rattle.hl_meaning.specs.Types.{Ty, is_void}
 use Rattle.hl_rules.specs.declared.interlocked.Method.{Method}
-use Rattle.hl_rules.specs.Constants.{constant_number}
-use Rattle.hl_rules.specs.DeclarationRules.{is_known}
-use Rattle.hl_rules.specs.ExpressionRules.{is_no_member, is_no_method, is_no_swizzle, is_not_indexed, is_past, needs_constant_index}
-use Rattle.hl_rules.specs.Expressions.{argument_codes, bare_at, bracketed_code, code_of, codes_of, dotted_code, index_expr, indexed_code, indexed_into, method_call_code, method_code}
+use Rattle.hl_rules.specs.ExpressionRules.{is_no_member, is_no_method, is_no_swizzle}
+use Rattle.hl_rules.specs.Expressions.{code_of, codes_of, dotted_code, first_at, first_number, method_call_code, method_code}
 use Rattle.hl_rules.specs.Intrinsics.{method_of}
-use Rattle.hl_rules.specs.Nodes.{Code, type_of_code, value_of_code}
-use Rattle.hl_rules.specs.Parts.{Site, a_dot, a_method_call, an_index, site}
-use Rattle.hl_rules.specs.Scopes.{BufferInfo, Scope, Sort, a_buffer_name, a_function_name, a_struct_name, a_variable_name, sort_at, spelled}
-use Rattle.hl_rules.specs.Sites.{argument_sites, arguments_sites, buffer_or_used, expression_sites, used}
+use Rattle.hl_rules.specs.Nodes.{Code, type_of_code}
+use Rattle.hl_rules.specs.Parts.{Site, a_dot, a_method_call, site}
+use Rattle.hl_rules.specs.Scopes.{BufferInfo, Scope, spelled}
+use Rattle.hl_rules.specs.Sites.{arguments_sites, buffer_or_used, expression_sites, used}
 use Rattle.hl_rules.specs.Source.{terminal_at}
-use Rattle.hl_rules.specs.Values.{Value, argument_types, arguments_of, bracketed_value, buffer_at, buffer_named, dotted_value, indexed_value, method_fits, method_gives, method_type, plain_value, standing_in, type_in, value, value_of, values_of}
+use Rattle.hl_rules.specs.Values.{Value, argument_types, buffer_at, buffer_named, dotted_value, method_fits, method_gives, method_type, plain_value, type_in, value_of, values_of}
 use Rattle.hl_rules.proofs.Arguments.{ArgumentsBecome, arguments-typed}
 use Rattle.hl_rules.proofs.Becoming.{Becomes, not-true}
-use Rattle.hl_rules.proofs.ConstantNumbers.{constant-small, first-small}
+use Rattle.hl_rules.proofs.ConstantNumbers.{first-small}
 use Rattle.hl_rules.proofs.DotForms.{dotted-becomes}
-use Rattle.hl_rules.proofs.Fitting.{Fits, IsKnown}
+use Rattle.hl_rules.proofs.Fitting.{IsKnown}
 use Rattle.hl_rules.proofs.Free.{IsFree, Obeys, free-first, free-left, free-right, not_broken}
-use Rattle.hl_rules.proofs.IndexForms.{IsIndex, index-there, indexed-becomes, is_indexed, scalar-converts}
 use Rattle.hl_rules.proofs.MethodForms.{method-becomes}
-use Rattle.hl_rules.proofs.Methods.{IsMethodOf, method-is}
-use Rattle.hl_rules.proofs.OperatorSites.{Known, known-stands, of-one, type-known, used-of}
-use Rattle.hl_rules.proofs.PlaceForms.{element-becomes}
+use Rattle.hl_rules.proofs.Methods.{method-is}
+use Rattle.hl_rules.proofs.OperatorSites.{Known, of-one, type-known, used-of}
 
 -- ---- members and swizzles
 
@@ -101,11 +92,11 @@ method-typed buffer name values types method e h k =
     ∙ (ap (λ o. option_and_then (λ m. if method_fits m values then method_gives buffer m else None) o) h
     ∙ ap (λ b. if b then method_gives buffer method else None) k)
 
-method-coded : (s : Scope) (at number : ℕ) (operand : Tree) (name : List ℕ) (trees : Trees) (codes : List Code) (buffer : BufferInfo) (method : Method) → buffer_named s operand ≡ Some number → slice_get s.buffers number ≡ Some buffer → method_of buffer name ≡ Some method → method_call_code s at (buffer_named s operand) name trees codes ≡ method_code s at number method trees codes
+method-coded : (s : Scope) (at number : ℕ) (operand : Tree) (name : List ℕ) (trees : Trees) (codes : List Code) (buffer : BufferInfo) (method : Method) → buffer_named s operand ≡ Some number → slice_get s.buffers number ≡ Some buffer → method_of buffer name ≡ Some method → method_call_code s at (buffer_named s operand) name trees codes ≡ method_code buffer at number method (first_at trees) (first_number s trees) codes
 method-coded s at number operand name trees codes buffer method e h k =
     ap (λ o. method_call_code s at o name trees codes) e
-    ∙ (ap (λ o. option_and_then (λ info. option_and_then (λ m. method_code s at number m trees codes) (method_of info name)) o) h
-    ∙ ap (λ o. option_and_then (λ m. method_code s at number m trees codes) o) k)
+    ∙ (ap (λ o. option_and_then (λ info. option_and_then (λ m. method_code info at number m (first_at trees) (first_number s trees) codes) (method_of info name)) o) h
+    ∙ ap (λ o. option_and_then (λ m. method_code buffer at number m (first_at trees) (first_number s trees) codes) o) k)
 
 pub method-known : (s : Scope) → IsKnown s → (at mark name first : ℕ) (operand : Tree) (trees : Trees) (codes : List Code) → codes_of s trees ≡ Some codes → ArgumentsBecome s (values_of s trees) codes → IsFree (expression_sites s (a_postfix at operand mark (Some name) (present (an_args first trees)))) → Known s (a_postfix at operand mark (Some name) (present (an_args first trees)))
 method-known s known at mark name first operand trees codes coded h free = on (buffer_at s operand) refl judged

@@ -17,9 +17,9 @@ use Rattle.hl_rules.proofs.EntryForms.{IsMadeFunction, free-item, free-items, fu
 use Rattle.hl_rules.proofs.Free.{IsFree, free-first, not_broken}
 use Rattle.hl_rules.proofs.FunctionEntry.{IsFreeFunction, entry-kept, entry-threads, free-function}
 use Rattle.hl_rules.proofs.ItemForms.{AreKnownItems, IsOther, is_function-any, is_named, other-buffer, other-constant, other-shared, other-struct}
-use Rattle.hl_rules.proofs.Options.{not-false}
 use Rattle.hl_rules.proofs.ThreadForms.{HasThreads}
 use Rattle.hl_rules.proofs.TreeShapes.{AllTrees, IsItem}
+use Rattle.hl_rules.proofs.Options.{not-false}
 
 -- One of the functions is the entry, the first one of its name, and there are its threads.
 pub record HasEntry (s : Scope) (items : Trees) (defs : List FunctionDef) : Type 0 where
@@ -165,7 +165,7 @@ position-number p before x after e h =
     within m n k = grind arith
 
 -- items keep the name of the entry
-pub entry-behind : (tokens : List Lexeme) (s : Scope) (items : Trees) → AllTrees (IsItem tokens) items → (after_items s items).entry ≡ s.entry
+entry-behind : (tokens : List Lexeme) (s : Scope) (items : Trees) → AllTrees (IsItem tokens) items → (after_items s items).entry ≡ s.entry
 entry-behind tokens s no_trees shape = refl
 entry-behind tokens s (more_trees (an_item place (a_function at attributes result name params block)) rest) shape = entry-behind tokens (with_function s result name params) rest shape.1
 entry-behind tokens s (more_trees (an_item place (a_struct at name members)) rest) shape = entry-behind tokens (after_item s (a_struct at name members)) rest shape.1

@@ -1,5 +1,5 @@
 -- A program that breaks no rule becomes one, and it is well formed.
-use Rattle.std.proofs.Common.{◌≡◌, ◌∙◌, refl, sym, ap, subst, ℕ, zero, suc, ◌<◌, List, [], ◌∷◌, ◌++◌, length, take, Option, None, Some, append_assoc}
+use Rattle.std.proofs.Common.{◌≡◌, refl, sym, ap, subst, ℕ, zero, suc, List, [], ◌∷◌, ◌++◌, length, take, Option, Some, append_assoc}
 use Rattle.std.specs.Prelude.{option_and_then, slice_get, unwrap_or}
 use Rattle.std.proofs.lemmas.List.{append-nil}
 use Rattle.hl_lexer.specs.Tokens.{Lexeme}
@@ -8,8 +8,7 @@ use Rattle.hl_meaning.specs.Places as places
 use Rattle.hl_meaning.specs.Programs.{Constant, FunctionDef, Program, Resource, StructDef, Variable}
 use Rattle.hl_meaning.specs.WellFormed.{IsEntryIf, IsFunction, IsWellFormed}
 use Rattle.hl_rules.specs.Elaboration.{after_items, all_of_items, entry_number, item_constants, item_functions, item_resources, item_shared, item_threads, items_program, of_items, one_of, program_of}
-use Rattle.hl_rules.specs.Expressions.{with_three}
-use Rattle.hl_rules.specs.Scopes.{Scope, first_scope}
+use Rattle.hl_rules.specs.Scopes.{first_scope}
 use Rattle.hl_rules.specs.Sites.{items_sites, program_sites}
 use Rattle.hl_rules.specs.Statements.{struct_defs}
 use Rattle.hl_rules.proofs.Fitting.{AreTokens}
@@ -23,6 +22,7 @@ use Rattle.hl_rules.proofs.Soundness.{IsSound}
 use Rattle.hl_rules.proofs.StructMembers.{structs-kept}
 use Rattle.hl_rules.proofs.TreeShapes.{AllTrees, IsItem, IsProgram}
 use Rattle.hl_rules.proofs.ValueForms.{ExpressionsBecome}
+use Rattle.hl_rules.proofs.StatementParts.{with_three-there}
 
 -- ---- before the first item
 
@@ -74,10 +74,6 @@ function-of structs resources shared constants functions entry threads number f 
   returns = kept.returns;
 }
 
-with_three-there : {A B C D : Type 0} (f : A → B → C → Option D) (a : Option A) (b : Option B) (c : Option C) (x : A) (y : B) (z : C) → a ≡ Some x → b ≡ Some y → c ≡ Some z → with_three f a b c ≡ f x y z
-with_three-there f a b c x y z e h k =
-    ap (λ o. with_three f o b c) e ∙ (ap (λ o. with_three f (Some x) o c) h ∙ ap (λ o. with_three f (Some x) (Some y) o) k)
-
 -- ---- programs
 
 -- a program that a tree becomes, and that is well formed
@@ -99,30 +95,30 @@ module _ (tokens : List Lexeme) (entry : List ℕ) (items : Trees) where
       threads = found.threads;
     };
     is =
-      with_three-there (λ functions number threads. Some (record {
-        structs = struct_defs (after_items (first_scope tokens entry) items).structs;
-        resources = of_items item_resources (first_scope tokens entry) items;
-        shared = of_items item_shared (first_scope tokens entry) items;
-        constants = of_items item_constants (first_scope tokens entry) items;
-        functions = functions;
-        entry = number;
-        threads = threads;
-      }))
-      (all_of_items item_functions (first_scope tokens entry) items)
-      (entry_number (after_items (first_scope tokens entry) items))
-      (option_and_then one_of (all_of_items item_threads (first_scope tokens entry) items))
-      kept.defs (length found.before) found.threads
-      kept.made
-      (entry-number tokens (first_scope tokens entry) items kept.defs shapes refl found)
-      (ap (λ o. option_and_then one_of o) found.is);
+        with_three-there (λ functions number threads. Some (record {
+          structs = struct_defs (after_items (first_scope tokens entry) items).structs;
+          resources = of_items item_resources (first_scope tokens entry) items;
+          shared = of_items item_shared (first_scope tokens entry) items;
+          constants = of_items item_constants (first_scope tokens entry) items;
+          functions = functions;
+          entry = number;
+          threads = threads;
+        }))
+        (all_of_items item_functions (first_scope tokens entry) items)
+        (entry_number (after_items (first_scope tokens entry) items))
+        (option_and_then one_of (all_of_items item_threads (first_scope tokens entry) items))
+        kept.defs (length found.before) found.threads
+        kept.made
+        (entry-number tokens (first_scope tokens entry) items kept.defs shapes refl found)
+        (ap (λ o. option_and_then one_of o) found.is);
     well_formed = record {
       structs = λ number d e. structs-kept (after_items (first_scope tokens entry) items).structs number d kept.sound.structs e;
       resources = kept.resources;
       shared = kept.shared;
       constants = kept.constants;
       functions = λ number f e.
-        function-of _ _ _ _ kept.defs (length found.before) found.threads number f
-        (function-behind (program_env (struct_defs (after_items (first_scope tokens entry) items).structs) (of_items item_resources (first_scope tokens entry) items) (of_items item_shared (first_scope tokens entry) items) (of_items item_constants (first_scope tokens entry) items)) [] kept.defs number f kept.functions e);
+          function-of _ _ _ _ kept.defs (length found.before) found.threads number f
+          (function-behind (program_env (struct_defs (after_items (first_scope tokens entry) items).structs) (of_items item_resources (first_scope tokens entry) items) (of_items item_shared (first_scope tokens entry) items) (of_items item_constants (first_scope tokens entry) items)) [] kept.defs number f kept.functions e);
       entry = subst (λ o. IsEntryIf o) (sym found.at) found.kept;
       threads = found.are;
     };

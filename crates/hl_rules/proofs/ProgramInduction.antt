@@ -1,22 +1,22 @@
 -- Items that break no rule keep what a program keeps: by induction over the items.
-use Rattle.std.proofs.Common.{◌≡◌, ◌∙◌, refl, sym, ap, subst, ℕ, List, [], ◌∷◌, ◌++◌, length, Option, None, Some, append_assoc}
+use Rattle.std.proofs.Common.{◌≡◌, ◌∙◌, refl, sym, subst, ℕ, List, [], ◌∷◌, ◌++◌, Option, append_assoc}
 use Rattle.std.proofs.lemmas.List.Elements.{All-nil}
 use Rattle.hl_parser.specs.Trees.{Tree, Trees, a_buffer, a_constant, a_function, a_shared, a_struct, an_item, at_of, more_trees, no_trees}
 use Rattle.hl_meaning.specs.Programs.{Constant, FunctionDef, Resource, StructDef, Variable}
 use Rattle.hl_meaning.specs.WellFormed.{IsConstant, IsDeclared, IsResource}
 use Rattle.hl_rules.specs.Constants.{declarator_type, named_type}
-use Rattle.hl_rules.specs.Declarations.{after_item, buffer_info, struct_info, with_function}
-use Rattle.hl_rules.specs.Elaboration.{after_items, declared_constant, declared_shared, item_constants, item_resources, item_shared, of_items, resource}
-use Rattle.hl_rules.specs.Parts.{a_global_name, a_whole_struct, site}
+use Rattle.hl_rules.specs.Declarations.{after_item, buffer_info, with_function}
+use Rattle.hl_rules.specs.Elaboration.{declared_constant, declared_shared, item_constants, item_resources, item_shared, of_items, resource}
+use Rattle.hl_rules.specs.Parts.{a_global_name, site}
 use Rattle.hl_rules.specs.Scopes.{Scope}
-use Rattle.hl_rules.specs.Sites.{constant_sites, declarator_sites, element_sites, item_sites, items_sites, register_sites, shared_sites, type_sites}
+use Rattle.hl_rules.specs.Sites.{constant_sites, declarator_sites, element_sites, item_sites, register_sites, shared_sites, type_sites}
 use Rattle.hl_rules.specs.Statements.{struct_defs}
 use Rattle.hl_rules.proofs.ConstantItems.{constant-kept}
-use Rattle.hl_rules.proofs.DeclaratorForms.{IsKnownAs, declarator-known, named-known}
+use Rattle.hl_rules.proofs.DeclaratorForms.{declarator-known, named-known}
 use Rattle.hl_rules.proofs.EntryForms.{free-item, free-items}
 use Rattle.hl_rules.proofs.Free.{IsFree, free-left, free-rest, free-right}
 use Rattle.hl_rules.proofs.FunctionEntry.{free-function, made_function}
-use Rattle.hl_rules.proofs.FunctionItems.{IsFunctionThere, function-there}
+use Rattle.hl_rules.proofs.FunctionItems.{function-there}
 use Rattle.hl_rules.proofs.ItemForms.{other-shared}
 use Rattle.hl_rules.proofs.ProgramItems.{AreFrom, AreKeptItems, buffer-kept, constant-item-kept, function-kept, shared-kept, struct-kept}
 use Rattle.hl_rules.proofs.ProgramScopes.{Stands, program_env}
@@ -46,9 +46,9 @@ module _ (structs : List StructDef) (resources : List Resource) (shared : List V
       record {
         stands = stands-constant structs resources shared constants s rs ss cs fs stands more prefix (named_type s type) declarator init behind own e;
         kept =
-          constant-kept (program_env structs resources shared constants) s stands.sound stands.outside (record { more = more; prefix = prefix; names = stands.names }) (named_type s type) declarator init own
-          (free-rest (site s (a_global_name (at_of declarator))) (constant_sites s (declarator_type s (named_type s type) declarator) declarator init)
-          (free-right (declarator_sites s (named_type s type) declarator) (site s (a_global_name (at_of declarator)) ∷ constant_sites s (declarator_type s (named_type s type) declarator) declarator init) rest));
+            constant-kept (program_env structs resources shared constants) s stands.sound stands.outside (record { more = more; prefix = prefix; names = stands.names }) (named_type s type) declarator init own
+            (free-rest (site s (a_global_name (at_of declarator))) (constant_sites s (declarator_type s (named_type s type) declarator) declarator init)
+            (free-right (declarator_sites s (named_type s type) declarator) (site s (a_global_name (at_of declarator)) ∷ constant_sites s (declarator_type s (named_type s type) declarator) declarator init) rest));
       }
 
   -- groupshared variables
@@ -78,7 +78,7 @@ module _ (structs : List StructDef) (resources : List Resource) (shared : List V
       let item = an_item place (a_function at attributes result name params block) in
       let front = front-there s (more_trees item rest) rs ss cs fs stands from in
       let there = function-there structs resources shared constants s rs ss cs fs stands front.0 front.1 claim attributes result name params block
-          (free-function s at attributes result name params block (free-item s item rest from.free)) from.shapes.0.1 from.shapes.0.2 from.shapes.0.3 in
+      (free-function s at attributes result name params block (free-item s item rest from.free)) from.shapes.0.1 from.shapes.0.2 from.shapes.0.3 in
       function-kept structs resources shared constants s place at attributes result name params block rest fs there
       (items-kept claim (with_function s result name params) rest rs ss cs (fs ++ made_function s result name params block there.known.type there.code ∷ [])
       (stands-function structs resources shared constants s rs ss cs fs stands front.0 front.1 result name params block there from.shapes.0.2)

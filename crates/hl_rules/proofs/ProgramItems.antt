@@ -1,38 +1,27 @@
 -- Items that break no rule make what a program keeps.
-use Rattle.std.proofs.Common.{◌≡◌, ◌∙◌, refl, sym, ap, subst, ℕ, List, [], ◌∷◌, ◌++◌, length, Option, None, Some, append_assoc}
+use Rattle.std.proofs.Common.{◌≡◌, ◌∙◌, ap, ℕ, List, [], ◌∷◌, ◌++◌, Option, Some}
 use Rattle.std.specs.Prelude.{option_map}
 use Rattle.std.specs.List.{All}
-use Rattle.std.proofs.lemmas.List.Elements.{All-append, All-cons, All-nil}
-use Rattle.hl_parser.specs.Trees.{Tree, Trees, a_buffer, a_constant, a_function, a_shared, a_struct, an_item, at_of, more_trees, no_trees}
+use Rattle.std.proofs.lemmas.List.Elements.{All-append, All-cons}
+use Rattle.hl_parser.specs.Trees.{Tree, Trees, a_buffer, a_constant, a_function, a_shared, a_struct, an_item, more_trees}
 use Rattle.hl_meaning.specs.Places as places
 use Rattle.hl_meaning.specs.Programs.{Constant, FunctionDef, Resource, StructDef, Variable}
-use Rattle.hl_meaning.specs.Types.{Ty}
 use Rattle.hl_meaning.specs.WellFormed.{IsConstant, IsDeclared, IsResource}
-use Rattle.hl_rules.specs.Constants.{declarator_type, named_type}
-use Rattle.hl_rules.specs.Declarations.{after_item, after_shared, at_params, buffer_info, with_constant, with_function}
-use Rattle.hl_rules.specs.Elaboration.{after_items, all_of_items, both_lists, declared_constant, declared_shared, function_def, item_constants, item_functions, item_resources, item_shared, of_items, resource}
-use Rattle.hl_rules.specs.Parts.{a_global_name, a_whole_struct, site}
+use Rattle.hl_rules.specs.Constants.{named_type}
+use Rattle.hl_rules.specs.Declarations.{after_item, at_params, buffer_info, with_function}
+use Rattle.hl_rules.specs.Elaboration.{after_items, all_of_items, both_lists, declared_constant, declared_shared, item_constants, item_functions, item_resources, item_shared, of_items, resource}
 use Rattle.hl_rules.specs.Scopes.{Scope}
-use Rattle.hl_rules.specs.Sites.{constant_sites, declarator_sites, element_sites, items_sites, register_sites, shared_sites, type_sites}
+use Rattle.hl_rules.specs.Sites.{items_sites}
 use Rattle.hl_rules.specs.Statements.{struct_defs}
-use Rattle.hl_rules.proofs.ConstantItems.{constant-kept}
-use Rattle.hl_rules.proofs.DeclaratorForms.{IsKnownAs, declarator-known, named-known}
-use Rattle.hl_rules.proofs.EntryForms.{free-item, free-items}
-use Rattle.hl_rules.proofs.Free.{IsFree, free-left, free-rest, free-right}
-use Rattle.hl_rules.proofs.FunctionEntry.{IsFreeFunction, free-function, made_function}
+use Rattle.hl_rules.proofs.Free.{IsFree}
+use Rattle.hl_rules.proofs.FunctionEntry.{made_function}
 use Rattle.hl_rules.proofs.FunctionForms.{IsFunctionBehind}
-use Rattle.hl_rules.proofs.FunctionItems.{IsFunctionThere, function-there}
-use Rattle.hl_rules.proofs.ItemForms.{AreKnownItems, no-list, other-shared}
+use Rattle.hl_rules.proofs.FunctionItems.{IsFunctionThere}
+use Rattle.hl_rules.proofs.ItemForms.{AreKnownItems, no-list}
 use Rattle.hl_rules.proofs.ParamForms.{known-params}
-use Rattle.hl_rules.proofs.ProgramScopes.{Stands, program_env}
-use Rattle.hl_rules.proofs.ProgramSteps.{stands-buffer, stands-function, stands-struct}
-use Rattle.hl_rules.proofs.ResourceForms.{IsKnownBuffer, kind-known, resource-kept}
-use Rattle.hl_rules.proofs.SharedItems.{IsSharedThere, prefix-there, shared-there}
+use Rattle.hl_rules.proofs.ProgramScopes.{program_env}
 use Rattle.hl_rules.proofs.Soundness.{IsSound}
-use Rattle.hl_rules.proofs.StructItems.{struct-known}
 use Rattle.hl_rules.proofs.TreeShapes.{AllTrees, IsItem}
-use Rattle.hl_rules.proofs.ValueForms.{ExpressionsBecome}
-use Rattle.hl_rules.proofs.VariableSteps.{stands-constant}
 
 -- functions one behind the other, behind these
 abbrev pub AreFunctionsBehind : places.Scope → (before : List FunctionDef) → List FunctionDef → Type 0
@@ -64,8 +53,8 @@ module _ (structs : List StructDef) (resources : List Resource) (shared : List V
   function-kept s place at attributes result name params block rest fs there kept = record {
     defs = made_function s result name params block there.known.type there.code ∷ kept.defs;
     made =
-      ap (λ o. both_lists (option_map (λ (f : FunctionDef). f ∷ []) o) (all_of_items item_functions (with_function s result name params) rest)) there.is
-      ∙ ap (λ o. both_lists (Some (made_function s result name params block there.known.type there.code ∷ [])) o) kept.made;
+        ap (λ o. both_lists (option_map (λ (f : FunctionDef). f ∷ []) o) (all_of_items item_functions (with_function s result name params) rest)) there.is
+        ∙ ap (λ o. both_lists (Some (made_function s result name params block there.known.type there.code ∷ [])) o) kept.made;
     functions = (there.kept, kept.functions);
     known = (known-params (at_params s result) params there.typed, kept.known);
     resources = kept.resources;

@@ -36,7 +36,7 @@ void-words : (structs : List StructDef) → words_of structs void_type ≡ 0
 unfolding words_of
 void-words structs = refl
 
-few-words : (most words : ℕ) → nat_lt most words ≡ false → words ≤ most
+pub few-words : (most words : ℕ) → nat_lt most words ≡ false → words ≤ most
 few-words most words e = grind arith
 
 -- what is known of the buffer of a kind

@@ -1,5 +1,5 @@
 -- Groupshared variables of one item, and the structs that items leave in front.
-use Rattle.std.proofs.Common.{◌≡◌, ◌∙◌, refl, sym, ap, subst, ℕ, List, [], ◌∷◌, ◌++◌, map, length, Option, None, Some, append_assoc}
+use Rattle.std.proofs.Common.{◌≡◌, ◌∙◌, refl, sym, ap, subst, List, [], ◌∷◌, ◌++◌, map, Option, append_assoc}
 use Rattle.std.specs.List.{All}
 use Rattle.std.proofs.lemmas.List.{append-nil}
 use Rattle.std.proofs.lemmas.List.Elements.{All-cons, All-nil}
@@ -8,7 +8,6 @@ use Rattle.hl_parser.specs.Trees.{Tree, Trees, a_buffer, a_constant, a_function,
 use Rattle.hl_meaning.specs.Programs.{Constant, FunctionDef, Resource, StructDef, Variable}
 use Rattle.hl_meaning.specs.Types.{Ty}
 use Rattle.hl_meaning.specs.WellFormed.{IsDeclared}
-use Rattle.hl_rules.specs.Constants.{declarator_type}
 use Rattle.hl_rules.specs.Declarations.{after_item, after_shared, struct_info, with_function, with_shared}
 use Rattle.hl_rules.specs.Elaboration.{after_items, declared_shared, declared_variable}
 use Rattle.hl_rules.specs.Parts.{a_global_name, site}
@@ -20,7 +19,6 @@ use Rattle.hl_rules.proofs.DeclaratorForms.{IsKnownAs, declarator-known}
 use Rattle.hl_rules.proofs.Free.{IsFree, free-left, free-rest, free-right}
 use Rattle.hl_rules.proofs.LocalForms.{known-behind}
 use Rattle.hl_rules.proofs.ProgramScopes.{Stands, program_env}
-use Rattle.hl_rules.proofs.ScopeForms.{FitsNames}
 use Rattle.hl_rules.proofs.StructForms.{AreKnownStructs}
 use Rattle.hl_rules.proofs.StructLayout.{struct_defs-front}
 use Rattle.hl_rules.proofs.TreeShapes.{AllTrees, IsDeclarator, IsItem}
@@ -37,8 +35,8 @@ module _ (structs : List StructDef) (resources : List Resource) (shared : List V
   one-more : (ty : Option Ty) (s : Scope) (rs : List Resource) (ss : List Variable) (cs : List Constant) (fs : List FunctionDef) (first : Tree) (rest : Trees) → IsDeclared structs (declared_variable s ty first).ty → IsSharedThere ty (with_shared ty s first) rs (ss ++ declared_variable s ty first ∷ []) cs fs rest → IsSharedThere ty s rs ss cs fs (more_trees first rest)
   one-more ty s rs ss cs fs first rest declared there = record {
     stands =
-      subst (λ l. Stands (program_env structs resources shared constants) (after_shared ty (with_shared ty s first) rest) rs l cs fs)
-      (append_assoc ss (declared_variable s ty first ∷ []) (declared_shared ty (with_shared ty s first) rest)) there.stands;
+        subst (λ l. Stands (program_env structs resources shared constants) (after_shared ty (with_shared ty s first) rest) rs l cs fs)
+        (append_assoc ss (declared_variable s ty first ∷ []) (declared_shared ty (with_shared ty s first) rest)) there.stands;
     declared = All-cons (λ (v : Variable). IsDeclared structs v.ty) (declared_variable s ty first) (declared_shared ty (with_shared ty s first) rest) declared there.declared;
   }
 

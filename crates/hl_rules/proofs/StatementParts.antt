@@ -157,7 +157,7 @@ pub record IsMadeStep (s : Scope) (code : Option (Option Expr)) : Type 0 where
   pub is : code ≡ Some to
   pub made : (env : places.Scope) → Fits env s → IsExprIf env to
 
-with_three-there : {A B C D : Type 0} (f : A → B → C → Option D) (a : Option A) (b : Option B) (c : Option C) (x : A) (y : B) (z : C) → a ≡ Some x → b ≡ Some y → c ≡ Some z → with_three f a b c ≡ f x y z
+pub with_three-there : {A B C D : Type 0} (f : A → B → C → Option D) (a : Option A) (b : Option B) (c : Option C) (x : A) (y : B) (z : C) → a ≡ Some x → b ≡ Some y → c ≡ Some z → with_three f a b c ≡ f x y z
 with_three-there f a b c x y z e k l = ap (λ o. with_three f o b c) e ∙ with_two-there (f x) b c y z k l
 
 -- one statement where one must stand, or none

@@ -76,7 +76,7 @@ walk-before-two tokens one other step f =
     walk-map tokens _ (λ r. r.0) (walk-then tokens _ _ f (walk-behind tokens one _ (walk-mark tokens other)))
 
 mutual
-  pub walk-statement : (tokens : List Lexeme) (tree : Tree) → Walks tokens (Spells 19 tree) (IsStatement tokens tree)
+  walk-statement : (tokens : List Lexeme) (tree : Tree) → Walks tokens (Spells 19 tree) (IsStatement tokens tree)
   walk-statement tokens (a_stmt at absent) = walk-as tokens 19 19 _ (walk-map tokens _ (λ r. tt) (walk-token tokens at terminals.Semicolon))
   walk-statement tokens (a_stmt at (present part)) =
       walk-as tokens 19 19 _ (walk-at tokens at (at_of part) _
@@ -136,7 +136,7 @@ mutual
       (walk-before-two tokens terminals.CloseParenthesis terminals.Semicolon _ (walk-expr tokens condition)))))))
   walk-do tokens tree = λ from to h read. absurd (let e = stands-itself 25 (production_of tree) (omega arith) (stands tree 25 from to h) in omega (arith, e))
 
-  pub walk-statements : (tokens : List Lexeme) (trees : Trees) → Walks tokens (Each 19 trees) (AreStatements tokens trees)
+  walk-statements : (tokens : List Lexeme) (trees : Trees) → Walks tokens (Each 19 trees) (AreStatements tokens trees)
   walk-statements tokens no_trees = walk-nothing tokens tt
   walk-statements tokens (more_trees first rest) = walk-then tokens _ _ (walk-statement tokens first) (walk-statements tokens rest)
 

@@ -1,5 +1,5 @@
 -- Structs that break no rule have members of known types, and words.
-use Rattle.std.proofs.Common.{◌≡◌, ◌∙◌, refl, sym, ap, subst, ℕ, ◌+◌, ◌<◌, ◌≤◌, false, nat_lt, List, [], ◌∷◌, ◌++◌, length, Option, Some, length-append, arith}
+use Rattle.std.proofs.Common.{◌≡◌, ◌∙◌, refl, sym, ap, subst, ℕ, ◌+◌, ◌<◌, List, [], ◌∷◌, ◌++◌, length, Option, Some, length-append, arith}
 use Rattle.std.specs.Prelude.{IsTrue, option_and_then, option_map, unwrap_or}
 use Rattle.std.proofs.lemmas.List.{length-map}
 use Rattle.hl_lexer.specs.Tokens.{Lexeme}
@@ -18,6 +18,7 @@ use Rattle.hl_rules.proofs.Free.{IsFree, free-first, free-left, free-rest, free-
 use Rattle.hl_rules.proofs.Soundness.{IsSound}
 use Rattle.hl_rules.proofs.StructForms.{AreKnownMembers, AreKnownStructs, IsKnownStruct, IsTypeBelow, info_words, known_words, type_below, type_words-known, words_known}
 use Rattle.hl_rules.proofs.TreeShapes.{AllTrees, IsDeclarator, IsMember, are_some}
+use Rattle.hl_rules.proofs.ResourceForms.{few-words}
 
 -- ---- members
 
@@ -72,16 +73,13 @@ members-have structs known (m ∷ members) k =
     ∙ type_words-known structs k.0.type known (type_below (length structs) k.0.type (subst (λ n. IsTypeBelow n k.0.type) (length-map structs words_known) k.0.known.is_type)))
     ∙ ap (λ o. Some (words_in (known_words structs) (unwrap_or o void_type) + info_words (known_words structs) members)) (sym k.0.is))
 
-few : (words : ℕ) → nat_lt most_words words ≡ false → words ≤ most_words
-few words e = grind arith
-
 pub struct-known : (s : Scope) → IsSound s → (name : ℕ) (members : Trees) → IsTrue (are_some members) → AllTrees (IsMember s.tokens) members → IsFree (members_sites s [] members ++ (site s (a_global_name name) ∷ site s (a_whole_struct name (struct_info s name members).words) ∷ [])) → IsKnownStruct (known_words s.structs) (struct_info s name members)
 struct-known s sound name members some shape free = record {
   some_member = some-member s s.tokens members some shape;
   members = known;
   has_words = words;
   fits =
-      few (info_words (known_words s.structs) (members_info s members))
+      few-words most_words (info_words (known_words s.structs) (members_info s members))
       (ap (λ o. is_more most_words o) (sym words)
       ∙ not_broken (is_more most_words (members_words s.structs (members_info s members))) name
       (free-first (site s (a_whole_struct name (struct_info s name members).words)) []

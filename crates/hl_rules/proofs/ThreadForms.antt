@@ -10,8 +10,9 @@ use Rattle.hl_rules.specs.Expressions.{with_two}
 use Rattle.hl_rules.specs.Parts.{a_function_attribute, site}
 use Rattle.hl_rules.specs.Scopes.{Scope}
 use Rattle.hl_rules.specs.Sites.{arguments_sites, function_attributes_sites, is_numthreads}
+use Rattle.hl_rules.proofs.TypeLemmas.{and-left, and-right}
 use Rattle.hl_rules.proofs.Free.{IsFree, free-first, free-rest, free-right, not_broken}
-use Rattle.hl_rules.proofs.Options.{and-one, and-other, no-more, not-both}
+use Rattle.hl_rules.proofs.Options.{no-more, not-both}
 
 -- threads are there
 pub record HasThreads (found : Option (List ℕ)) : Type 0 where
@@ -20,22 +21,22 @@ pub record HasThreads (found : Option (List ℕ)) : Type 0 where
   pub are : AreThreads threads
 
 one_to : (most number : ℕ) → is_from_one_to most number ≡ true → (1 ≤ number) × (number ≤ most)
-one_to most number e = (no-more 1 number (and-one (nat_le 1 number) (nat_le number most) e), no-more number most (and-other (nat_le 1 number) (nat_le number most) e))
+one_to most number e = (no-more 1 number (and-left (nat_le 1 number) (nat_le number most) e), no-more number most (and-right (nat_le 1 number) (nat_le number most) e))
 
 three-threads : (x y z : Option ℕ) → are_threads x y z ≡ true → HasThreads (with_two (λ number numbers. Some (number ∷ numbers)) x (with_two (λ number numbers. Some (number ∷ numbers)) y (with_two (λ number numbers. Some (number ∷ numbers)) z (Some []))))
 three-threads None y z e = absurd (cc e)
 three-threads (Some x) None z e = absurd (cc e)
 three-threads (Some x) (Some y) None e = absurd (cc e)
 three-threads (Some x) (Some y) (Some z) e =
-    let behind = and-other (is_from_one_to 1024 x) (is_from_one_to 1024 y && (is_from_one_to 64 z && nat_le (x * y * z) 1024)) e in
-    let last = and-other (is_from_one_to 1024 y) (is_from_one_to 64 z && nat_le (x * y * z) 1024) behind in
-    let first = one_to 1024 x (and-one (is_from_one_to 1024 x) (is_from_one_to 1024 y && (is_from_one_to 64 z && nat_le (x * y * z) 1024)) e) in
-    let second = one_to 1024 y (and-one (is_from_one_to 1024 y) (is_from_one_to 64 z && nat_le (x * y * z) 1024) behind) in
-    let third = one_to 64 z (and-one (is_from_one_to 64 z) (nat_le (x * y * z) 1024) last) in
+    let behind = and-right (is_from_one_to 1024 x) (is_from_one_to 1024 y && (is_from_one_to 64 z && nat_le (x * y * z) 1024)) e in
+    let last = and-right (is_from_one_to 1024 y) (is_from_one_to 64 z && nat_le (x * y * z) 1024) behind in
+    let first = one_to 1024 x (and-left (is_from_one_to 1024 x) (is_from_one_to 1024 y && (is_from_one_to 64 z && nat_le (x * y * z) 1024)) e) in
+    let second = one_to 1024 y (and-left (is_from_one_to 1024 y) (is_from_one_to 64 z && nat_le (x * y * z) 1024) behind) in
+    let third = one_to 64 z (and-left (is_from_one_to 64 z) (nat_le (x * y * z) 1024) last) in
     record {
       threads = x ∷ y ∷ z ∷ [];
       is = refl;
-      are = (first.0, first.1, second.0, second.1, third.0, third.1, no-more (x * y * z) 1024 (and-other (is_from_one_to 64 z) (nat_le (x * y * z) 1024) last));
+      are = (first.0, first.1, second.0, second.1, third.0, third.1, no-more (x * y * z) 1024 (and-right (is_from_one_to 64 z) (nat_le (x * y * z) 1024) last));
     }
 
 numbers-there : (s : Scope) (arguments : Trees) → have_threads s arguments ≡ true → HasThreads (thread_numbers s arguments)

@@ -1,11 +1,12 @@
 -- Steps of the grammar over the tokens of a source: what each says of the tokens that it passes.
 use Rattle.std.proofs.Common.{◌≡◌, ◌∙◌, refl, sym, ap, subst, ℕ, suc, inl, inr, Bool, List, [], ◌∷◌, ◌++◌, length, append_assoc}
-use Rattle.std.specs.Prelude.{IsTrue, map}
+use Rattle.std.specs.Prelude.{IsTrue}
 use Rattle.hl_lexer.specs.declared.terminal.Terminal.{Terminal}
 use Rattle.hl_lexer.specs.Terminals.{terminal_of}
 use Rattle.hl_lexer.specs.Tokens.{Lexeme}
 use Rattle.hl_parser.specs.Grammar.{As, At, Mark, Nothing, Numbered, Operator, Step, Token, Word, nth, numbered, operator_of, ◌or◌, ◌then◌}
 use Rattle.hl_rules.specs.Source.{terminal_at, terminals_of}
+use Rattle.hl_rules.proofs.Options.{length-one}
 
 -- each token is what stands at its index
 abbrev pub AreRead : List Lexeme → List Numbered → Type 0
@@ -26,10 +27,6 @@ read-behind before (token ∷ tokens) = (
       (subst (λ at. AreRead ((before ++ token ∷ []) ++ tokens) (numbered at (terminals_of tokens))) (length-one before token)
       (read-behind (before ++ token ∷ []) tokens)),
 )
-  where
-    length-one : (xs : List Lexeme) (x : Lexeme) → length (xs ++ x ∷ []) ≡ suc (length xs)
-    length-one [] x = refl
-    length-one (y ∷ xs) x = ap suc (length-one xs x)
 
 pub source-read : (tokens : List Lexeme) → AreRead tokens (numbered 0 (terminals_of tokens))
 source-read tokens = read-behind [] tokens

@@ -1,10 +1,14 @@
 -- What holds of the rules and of elaboration for every tree.
-use Rattle.std.specs.Prelude.{◌≡◌, ℕ, List}
-use Rattle.hl_lexer.specs.Tokens.{Lexeme}
+use Rattle.std.specs.Prelude.{◌≡◌, ℕ, List, Some}
+use Rattle.base_core.specs.declared.place.Place.{Place}
+use Rattle.hl_lexer.specs.Tokens.{IsTokenList, Lexeme}
+use Rattle.hl_parser.specs.Grammar.{SpellsProgram}
 use Rattle.hl_parser.specs.Trees.{Tree}
 use Rattle.hl_meaning.specs.Programs.{Program}
-use Rattle.hl_rules.specs.Elaboration.{Elaborates}
-use Rattle.hl_rules.specs.Rules.{Breaks, BreaksFirst, IsFirstBroken, first_broken}
+use Rattle.hl_meaning.specs.WellFormed.{IsWellFormed}
+use Rattle.hl_rules.specs.Elaboration.{Elaborates, program_of}
+use Rattle.hl_rules.specs.Rules.{Breaks, BreaksFirst, BreaksNothing, IsFirstBroken, first_broken}
+use Rattle.hl_rules.specs.Source.{terminals_of}
 
 -- a tree is elaborated to at most one program
 abbrev pub AtMostOneProgram : Type 0
@@ -21,3 +25,7 @@ NoProgram = (tree : Tree) (tokens : List Lexeme) (entry : List ℕ) (at rule : �
 -- every tree breaks no rule, or has a first broken rule: what gathering over its sites finds
 abbrev pub OneFirst : Type 0
 OneFirst = (tree : Tree) (tokens : List Lexeme) (entry : List ℕ) → IsFirstBroken tree tokens entry (first_broken tree tokens entry)
+
+-- a tree that the tokens of a text spell, and that breaks no rule, becomes a program, and it is well formed
+abbrev pub FreeIsWellFormed : Type 0
+FreeIsWellFormed = (text entry : List ℕ) (tokens : List Lexeme) (end : Place) (tree : Tree) → IsTokenList text tokens end → SpellsProgram (terminals_of tokens) tree → BreaksNothing tree tokens entry → (program : Program) × (program_of tokens entry tree ≡ Some program) × IsWellFormed program

@@ -83,7 +83,7 @@ of_two f a b = option_and_then (λ x. option_and_then (f x) b) a
 abbrev pub of_three : (Ty → Ty → Ty → Option Ty) → Option Ty → Option Ty → Option Ty → Option Ty
 of_three f a b c = option_and_then (λ x. of_two (f x) b c) a
 
--- the common type of several operands, behind those that have a common type
+-- the common type of what stands before, if there is one, and further operands
 abbrev pub common_behind : Option Ty → List Ty → Option Ty
 common_behind before [] = before
 common_behind before (ty ∷ types) = common_behind (option_and_then (λ x. common_type x ty) before) types

@@ -1,7 +1,12 @@
+pub mod Arguments
 pub mod Arrays
+pub mod Atomics
 pub mod Basics
+pub mod Few
 pub mod GlobalNames
+pub mod Intrinsics
 pub mod Known
+pub mod Methods
 pub mod NameEntries
 pub mod NameTables
 pub mod Noted

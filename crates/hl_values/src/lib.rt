@@ -4,14 +4,20 @@
 mod basic;
 mod constants;
 mod declare;
+mod few;
 mod forms;
+mod interlocked;
+mod intrinsic_calls;
+mod intrinsics;
 mod known;
 mod lookup;
+mod methods;
 mod name_table;
 mod nodes;
 mod noting;
 mod operators;
 mod parts;
+mod passing;
 mod scope;
 mod standing;
 mod steps;
@@ -26,12 +32,14 @@ pub use forms::{
     assignment_code, binary_code, choice_code, compound_code, constructor_code, element_type,
     index_expr, indexed_code, literal, member_code, signed_code, step_code, swizzled_code,
 };
+pub use intrinsics::{atomic_named, interlocked_form, intrinsic_named, signature_of};
 pub use name_table::NameTable;
 pub use nodes::{converted, converted_code, converted_each, in_kind, location, node, value_node};
 pub use operators::{
     Operator, choice_type, common_of, common_type, is_basic, is_no_operand, is_numeric,
     negated_type, operand_of, signed_type, valued,
 };
+pub use passing::{Passing, passed};
 pub use scope::{
     BufferInfo, FunctionInfo, Names, ParamInfo, Scope, Sort, VariableInfo, VariableRoot,
 };

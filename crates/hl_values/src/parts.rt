@@ -38,7 +38,11 @@ pub(crate) fn value(ty: Option<HlType>, code: Option<Code>) -> Typed
 }
 
 /// The type that an operator gives for two operands, where both have one.
-pub(crate) fn type_of_two(operator: Operator, left: &Option<HlType>, right: &Option<HlType>) -> Option<HlType>
+pub(crate) fn type_of_two(
+    operator: Operator,
+    left: &Option<HlType>,
+    right: &Option<HlType>,
+) -> Option<HlType>
     ensures { plain_type_if result ≡ of_two (operator_type (production_of operator)) (valued (plain_type_if left.now)) (valued (plain_type_if right.now)) }
 {
     let left = valued(left);

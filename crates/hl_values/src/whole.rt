@@ -13,7 +13,9 @@ ghost use Rattle.hl_values.specs.Noted.{noted_operand, noted_side};
 ghost use Rattle.hl_values.specs.ScopeViews.{scope_of};
 ghost use Rattle.hl_values.specs.TypedViews.{IsTyped};
 
-use crate::noting::{note_assigned, note_cast, note_operand, note_prefix, note_side, note_use, note_written};
+use crate::noting::{
+    note_assigned, note_cast, note_operand, note_prefix, note_side, note_use, note_written,
+};
 use crate::operators::Operator;
 use crate::parts::{assignment, binary, cast, choice, prefix, step};
 use crate::scope::Scope;

@@ -19,8 +19,8 @@ ghost use Rattle.hl_values.specs.Views.{plain_code_if, plain_type_if};
 
 use crate::constants::copied_if;
 use crate::forms::literal;
-use crate::parts::value;
 use crate::nodes::location;
+use crate::parts::value;
 use crate::scope::{Scope, Sort, VariableInfo, VariableRoot};
 use crate::typed::{Code, Standing, Typed};
 use base_core::{Bytes, NoMemory};

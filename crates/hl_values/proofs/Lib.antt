@@ -5,6 +5,7 @@ pub mod CallLemmas
 pub mod ChangeLemmas
 pub mod ConstantLemmas
 pub mod EachLemmas
+pub mod ExpressionLemmas
 pub mod FormLemmas
 pub mod IntrinsicTable
 pub mod KnownLemmas
@@ -12,6 +13,7 @@ pub mod LetterLemmas
 pub mod MethodLemmas
 pub mod NameLemmas
 pub mod NodeLemmas
+pub mod NoteLemmas
 pub mod NotedLemmas
 pub mod PassedLemmas
 pub mod PassingLemmas

@@ -6,13 +6,16 @@ pub mod Calls
 pub mod Few
 pub mod GlobalNames
 pub mod Intrinsics
+pub mod Known
 pub mod Methods
 pub mod NameEntries
 pub mod NameTables
+pub mod Noted
 pub mod ScopeChanges
 pub mod ScopeViews
 pub mod Steps
 pub mod StructEntries
 pub mod StructTables
+pub mod TypedViews
 pub mod Views
 pub mod WordCounts

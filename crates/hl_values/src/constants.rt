@@ -31,7 +31,7 @@ fn sum_of(mark: Terminal, a: u32, b: u32) -> Option<u32>
 }
 
 /// A sum, a difference or a product, by its mark, where both sides are constant numbers.
-fn combined(mark: Terminal, a: Option<u32>, b: Option<u32>) -> Option<u32>
+pub(crate) fn combined(mark: Terminal, a: Option<u32>, b: Option<u32>) -> Option<u32>
     ensures { result ≡ constants.combined mark a b }
 {
     sum_of(mark, a?, b?)

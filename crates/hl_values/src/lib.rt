@@ -15,13 +15,17 @@ mod lookup;
 mod methods;
 mod name_table;
 mod nodes;
+mod noting;
 mod operators;
+mod parts;
 mod passing;
 mod scope;
 mod standing;
 mod steps;
 mod structs;
 mod typed;
+mod whole;
+mod word;
 mod words;
 
 pub use basic::{Basic, components_type, is_of, is_scalar, is_void, kind_of, with_kind};

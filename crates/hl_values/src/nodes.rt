@@ -161,11 +161,7 @@ pub fn in_kind(kind: Kind, codes: Vec<Code>, alloc: Global) -> Result<Option<Exp
 }
 
 /// What something becomes, as a value of its size in a kind, where it is a scalar or a vector, or has no value.
-fn code_in_kind(
-    kind: Kind,
-    code: Code,
-    alloc: Global,
-) -> Result<Option<Boxed<Expr>>, NoMemory>
+fn code_in_kind(kind: Kind, code: Code, alloc: Global) -> Result<Option<Boxed<Expr>>, NoMemory>
     ensures { IfOk result (λ made. option_map plain_expr made ≡ converted_code (with_kind kind (type_of_code (plain_code code))) (plain_code code)) }
 {
     let own = with_kind(kind, code.ty(), alloc)?;

@@ -21,7 +21,9 @@ impl Standing {
             Standing::Unclear => Standing::Unclear,
             Standing::NoPlace => Standing::NoPlace,
             Standing::Place {
-                writable, atomic, ..
+                writable,
+                atomic,
+                ..
             } => Standing::Place {
                 writable,
                 atomic,
@@ -96,7 +98,9 @@ impl Standing {
     {
         match self {
             Standing::Place {
-                writable, letters, ..
+                writable,
+                letters,
+                ..
             } => *writable && is_without_repeats(letters),
             Standing::Unclear | Standing::NoPlace => false,
         }
@@ -199,11 +203,7 @@ fn swizzle_letters(name: &[u8], alloc: Global) -> Result<Option<Bytes>, NoMemory
 }
 
 /// The numbers of letters in an alphabet, where it has all of them.
-fn letters_in(
-    alphabet: &[u8; 4],
-    name: &[u8],
-    alloc: Global,
-) -> Result<Option<Bytes>, NoMemory>
+fn letters_in(alphabet: &[u8; 4], name: &[u8], alloc: Global) -> Result<Option<Bytes>, NoMemory>
     ensures letters { IfOk result (λ letters. letters ≡ letters_in alphabet.now name.now) }
     ensures length { IfOk result (λ letters. IfSome letters (λ l. length l ≡ length name.now)) }
 {

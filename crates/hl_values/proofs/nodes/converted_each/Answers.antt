@@ -13,7 +13,7 @@ loop-ty-preserved c =
     let conv = c.in_ok-expr.ensures in
     let pushed = c.in_ok-push.ensures in (
       each-loop c.args.types.now c.loop-ty.ty-index c.ty-item.result c.loop-ty.exprs c.push.new.self c.in-Some-2.expr c.into_inner.result c.in-Some.code (into_iter_items c.loop-ty.rest) (into_iter_items c.next.new.self)
-      c.in_ok-expr.field-0 (converted_each (map plain_ty c.args.types.now) (map plain_code c.args.codes.items)) c.loop-ty.invariant.0 c.loop-ty-test.true c.ty-item.is steps c.in-Some-2.is conv c.into_inner.ensures pushed.ok,
+          c.in_ok-expr.field-0 (converted_each (map plain_ty c.args.types.now) (map plain_code c.args.codes.items)) c.loop-ty.invariant.0 c.loop-ty-test.true c.ty-item.is steps c.in-Some-2.is conv c.into_inner.ensures pushed.ok,
       let was = c.loop-ty.invariant.1 in
           let gone = c.in-Some.ensures.cases.1 in
           let short = ap length steps in

@@ -12,7 +12,7 @@ loop-code-preserved c =
     let conv = c.in_ok-expr.ensures in
     let pushed = c.in_ok-push.ensures in (
       in_kind-loop c.args.kind c.loop-code.exprs c.push.new.self c.in-Some-2.expr c.into_inner.result c.in-Some.code (into_iter_items c.loop-code.code-iterator) (into_iter_items c.next.new.self)
-      c.in_ok-expr.field-0 (in_kind c.args.kind (map plain_code c.args.codes.items)) c.loop-code.invariant.0 steps c.in-Some-2.is conv c.into_inner.ensures pushed.ok,
+          c.in_ok-expr.field-0 (in_kind c.args.kind (map plain_code c.args.codes.items)) c.loop-code.invariant.0 steps c.in-Some-2.is conv c.into_inner.ensures pushed.ok,
       let was = c.loop-code.invariant.1 in
           let gone = c.in-Some.ensures.steps.1 in
           let short = ap length steps in

@@ -1,5 +1,5 @@
 -- Trees of no form that a walk over declarations looks for.
-use Rattle.std.proofs.Common.{◌≡◌, ◌∙◌, refl, sym, ap, ℕ, Bool, true, false, List, [], ◌∷◌, Option, None, Some, is_some, not}
+use Rattle.std.proofs.Common.{◌≡◌, ◌∙◌, refl, sym, ap, ℕ, Bool, true, false, List, Option, None, Some, is_some, not}
 use Rattle.hl_lexer.specs.Tokens.{Lexeme}
 use Rattle.hl_parser.specs.declared.tree.Tree.{Tree, Tree-F, fold_out-Tree, map-Tree, out-Tree, roll-Tree, roll-out-Tree}
 use Rattle.hl_parser.specs.declared.tree.Tree.TheVariants.{rolls-Attribute, rolls-Block, rolls-If, rolls-Init, rolls-Jump, rolls-Param, rolls-Primary, rolls-Result, rolls-Stmt, rolls-Unary}
@@ -8,7 +8,6 @@ use Rattle.hl_parser.specs.Trees as plain
 use Rattle.hl_parser.specs.Trees.{more_trees, no_trees}
 use Rattle.hl_parser.specs.Views.{plain_maybe, plain_of, plain_step}
 use Rattle.hl_rules.specs.DeclarationRules.{always_returns, is_no_result}
-use Rattle.hl_rules.specs.Scopes.{Scope}
 
 -- a tree as its layer, with the plain trees of its parts
 abbrev pub layer : Tree-F Tree → plain.Tree

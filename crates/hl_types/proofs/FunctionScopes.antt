@@ -1,15 +1,15 @@
 -- What is known in a function, where its name is declared before its parameters or behind them.
-use Rattle.std.proofs.Common.{◌≡◌, ◌∙◌, refl, sym, ap, ℕ, suc, ◌+◌, Bool, true, false, List, [], ◌∷◌, ◌++◌, length, Option, None, Some, option_map, option_and_then, nat_le, if◌then◌else◌, bytes_eq, find, cond, is_some}
+use Rattle.std.proofs.Common.{◌≡◌, ◌∙◌, refl, sym, ap, ℕ, Bool, true, false, List, [], ◌∷◌, ◌++◌, length, Option, None, Some, option_map, option_and_then, nat_le, if◌then◌else◌, bytes_eq, find, cond, is_some}
 use Rattle.std.specs.Option.{option_or}
 use Rattle.hl_lexer.specs.declared.terminal.Terminal.{Terminal}
 use Rattle.hl_lexer.specs.declared.terminal.Terminal.TheVariants as terminals
-use Rattle.hl_parser.specs.Trees.{Tree, Trees, Maybe, absent, present, no_trees, more_trees, a_binary, a_declarator, a_param, a_primary, a_result, a_type, at_of}
+use Rattle.hl_parser.specs.Trees.{Tree, Trees, absent, present, no_trees, more_trees, a_binary, a_declarator, a_param, a_primary, a_result, a_type, at_of}
 use Rattle.hl_meaning.specs.Types.{Ty, array_type}
 use Rattle.hl_rules.specs.Constants.{array_length, array_of, combined, constant_number, declarator_type, length_if, most_lengths, named_type, number_of_sort, result_type, struct_of_sort, tree_count, word_number}
-use Rattle.hl_rules.specs.Declarations.{after_param, after_params, at_params, function_info, in_body, param_copying, params_info, with_function, with_variable}
-use Rattle.hl_rules.specs.Scopes.{Named, ParamInfo, Scope, Sort, a_function_name, behind, declared_among, declared_in, named, sort_at, sort_of, spelled, with_global, with_local}
+use Rattle.hl_rules.specs.Declarations.{after_param, after_params, at_params, in_body, params_info, with_function, with_variable}
+use Rattle.hl_rules.specs.Scopes.{Named, ParamInfo, Scope, Sort, a_function_name, declared_among, declared_in, named, sort_at, spelled}
 use Rattle.hl_rules.specs.Source.{terminal_at}
-use Rattle.hl_values.specs.ScopeChanges.{in_function, inside_of, outside, with_function_named}
+use Rattle.hl_values.specs.ScopeChanges.{inside_of, with_function_named}
 
 -- ---- names, where a function's name is declared behind them
 

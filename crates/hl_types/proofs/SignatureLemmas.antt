@@ -1,5 +1,5 @@
 -- Functions of a name with parameters of the same types.
-use Rattle.std.proofs.Common.{◌≡◌, ◌∙◌, refl, sym, ap, ℕ, suc, ◌+◌, ◌<◌, ◌≤◌, Bool, true, false, if◌then◌else◌, ◌&&◌, ◌||◌, List, [], ◌∷◌, ◌++◌, length, map, drop, drop-cons, get_or, slice_get, bytes_eq, add-one, append_assoc, nat_eq, Some, ◌≢◌, arith}
+use Rattle.std.proofs.Common.{◌≡◌, ◌∙◌, refl, sym, ap, ℕ, suc, ◌+◌, ◌<◌, ◌≤◌, Bool, true, false, if◌then◌else◌, ◌&&◌, ◌||◌, List, [], ◌∷◌, ◌++◌, length, map, drop, get_or, slice_get, bytes_eq, add-one, append_assoc, Some, ◌≢◌}
 use Rattle.std.specs.List.{list_any}
 use Rattle.std.proofs.lemmas.List.{drop_all, length_push}
 use Rattle.hl_rules.specs.DeclarationRules.{have_same_types, is_same_type}
@@ -9,7 +9,7 @@ use Rattle.hl_values.specs.declared.scope.ParamInfo.{ParamInfo as HeldParam}
 use Rattle.hl_values.specs.NameTables.{is_named, positions_from}
 use Rattle.hl_values.specs.ScopeViews.{plain_function, plain_param}
 use Rattle.hl_types.proofs.Turns.{left-step}
-use Rattle.hl_types.specs.Signatures.{any_same, is_same_at, is_same_entry}
+use Rattle.hl_types.specs.Signatures.{any_same, is_same_entry}
 
 at-end : {A : Type 0} (before : List A) (x : A) (rest : List A) → slice_get (before ++ x ∷ rest) (length before) ≡ Some x
 at-end [] x rest = refl

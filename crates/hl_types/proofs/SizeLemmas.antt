@@ -1,5 +1,5 @@
 -- How large types may be.
-use Rattle.std.proofs.Common.{◌≡◌, ◌∙◌, refl, sym, ap, ℕ, ◌^◌, ◌<◌, ◌≤◌, Bool, true, false, if◌then◌else◌, nat_lt, Option, None, Some, option_map, arith}
+use Rattle.std.proofs.Common.{◌≡◌, refl, sym, ap, ℕ, ◌^◌, ◌<◌, Bool, true, false, if◌then◌else◌, nat_lt, Option, None, Some, option_map, arith}
 use Rattle.std.proofs.lemmas.Bool.{lt-ltb, ltb-false}
 use Rattle.hl_rules.specs.DeclarationRules.{is_more}
 use Rattle.hl_values.specs.declared.words.WordCount.{WordCount}

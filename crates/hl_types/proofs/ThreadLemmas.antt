@@ -1,5 +1,5 @@
 -- The threads that attributes give, one attribute after the other.
-use Rattle.std.proofs.Common.{◌≡◌, ◌≢◌, ◌∙◌, refl, sym, ap, ℕ, suc, Bool, true, false, ◌||◌, if◌then◌else◌, List, [], ◌∷◌, length, Option, None, Some, option_map, get_or, is_some, arith}
+use Rattle.std.proofs.Common.{◌≡◌, ◌≢◌, ◌∙◌, refl, sym, ap, ℕ, Bool, true, false, ◌||◌, if◌then◌else◌, List, [], ◌∷◌, length, Option, None, Some, get_or, is_some}
 use Rattle.hl_parser.specs.declared.tree.Tree.{Tree, Tree-F, out-Tree}
 use Rattle.hl_parser.specs.declared.tree.Tree.TheVariants.{rolls-Attribute}
 use Rattle.hl_parser.specs.declared.tree.Tree.TheVariants as variants

@@ -1,7 +1,6 @@
 -- What a whole function breaks doesn't depend on its parameters' names.
-use Rattle.std.proofs.Common.{◌≡◌, ◌∙◌, refl, sym, ap, ℕ, Bool, List, [], ◌∷◌, Option, Some}
+use Rattle.std.proofs.Common.{◌≡◌, ◌∙◌, sym, ap, ℕ, Bool, List, [], ◌∷◌, Option}
 use Rattle.hl_parser.specs.Trees.{Tree, Trees}
-use Rattle.hl_meaning.specs.Types.{Ty}
 use Rattle.hl_rules.specs.declared.found.Broken.{Broken}
 use Rattle.hl_rules.specs.Declarations.{after_params, at_params, params_info}
 use Rattle.hl_rules.specs.Parts.{a_whole_function, site}
@@ -10,7 +9,7 @@ use Rattle.hl_rules.specs.Scopes.{ParamInfo, Scope}
 use Rattle.hl_rules.proofs.Noting.{noted-whole_function}
 use Rattle.hl_rules.specs.Found.{breaking, broken_if, gathered}
 use Rattle.hl_types.specs.Whole.{judged, whole_noted}
-use Rattle.hl_types.proofs.FunctionScopes.{params-change, with_blocks}
+use Rattle.hl_types.proofs.FunctionScopes.{params-change}
 
 pub whole-noted : (s p : Scope) (infos : List ParamInfo) (attributes : Trees) (result : Tree) (name : ℕ) (params : Trees) (block : Tree) (found : Option Broken)
     → p ≡ after_params (at_params s result) params → infos ≡ params_info (at_params s result) params

@@ -1,4 +1,4 @@
-use Rattle.std.proofs.Common.{◌≡◌, ◌∙◌, ap, ◌+◌, ◌*◌, arith}
+use Rattle.std.proofs.Common.{◌∙◌, ap, ◌+◌, ◌*◌, arith}
 use Rattle.hl_lexer.specs.Scanning.{capped}
 use Rattle.hl_lexer.proofs.ValueFacts.{capped_more}
 use Rattle.hl_types.proofs.RegisterLemmas.{digit-worth}

@@ -1,4 +1,4 @@
-use Rattle.std.proofs.Common.{◌≡◌, ◌∙◌, sym, ap}
+use Rattle.std.proofs.Common.{◌∙◌, sym, ap}
 use Rattle.hl_rules.specs.DeclarationRules.{decimal_number}
 use Rattle.hl_types.proofs.RegisterLemmas.{behind-front, behind-none}
 use Rattle.hl_types.proofs.registers.number_behind.Goals as goal

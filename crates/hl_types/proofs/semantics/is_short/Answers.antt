@@ -1,8 +1,7 @@
-use Rattle.std.proofs.Common.{◌≡◌, ◌∙◌, sym, ap, ◌&&◌, nat_le}
+use Rattle.std.proofs.Common.{◌∙◌, sym, ap, ◌&&◌, nat_le}
 use Rattle.hl_meaning.specs.Types.{component_count, is_numeric}
 use Rattle.hl_meaning.specs.Views.{plain_ty}
 use Rattle.hl_meaning.proofs.Plain.{plain_ty-Array, plain_ty-Scalar, plain_ty-Struct, plain_ty-Vector, plain_ty-Void}
-use Rattle.hl_rules.specs.Values.{is_word}
 use Rattle.hl_types.proofs.semantics.is_short.Goals as goal
 
 pub returns-in-Scalar : goal.returns-in-Scalar

@@ -1,4 +1,4 @@
-use Rattle.std.proofs.Common.{◌≡◌, ◌∙◌, sym, ap, ◌&&◌, map, bytes_eq}
+use Rattle.std.proofs.Common.{◌∙◌, sym, ap, ◌&&◌, map, bytes_eq}
 use Rattle.std.specs.List.{list_any}
 use Rattle.hl_rules.specs.DeclarationRules.{have_same_types}
 use Rattle.hl_values.specs.ScopeViews.{plain_function, plain_param, scope_of}

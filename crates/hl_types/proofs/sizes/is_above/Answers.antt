@@ -1,4 +1,4 @@
-use Rattle.std.proofs.Common.{◌≡◌, ◌∙◌, sym, arith}
+use Rattle.std.proofs.Common.{◌∙◌, sym, arith}
 use Rattle.hl_types.proofs.SizeLemmas.{few-above, many-above}
 use Rattle.hl_types.proofs.sizes.is_above.Goals as goal
 

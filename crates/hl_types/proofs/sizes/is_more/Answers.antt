@@ -1,4 +1,4 @@
-use Rattle.std.proofs.Common.{◌≡◌, ◌∙◌, sym}
+use Rattle.std.proofs.Common.{◌∙◌, sym}
 use Rattle.hl_types.proofs.SizeLemmas.{above-known, above-none}
 use Rattle.hl_types.proofs.sizes.is_more.Goals as goal
 

@@ -1,4 +1,4 @@
-use Rattle.std.proofs.Common.{◌≡◌, ◌∙◌, sym, ap, ◌+◌, ◌||◌, drop}
+use Rattle.std.proofs.Common.{◌∙◌, sym, ap, ◌+◌, ◌||◌, drop}
 use Rattle.hl_parser.specs.Views.{plain_of, plain_trees}
 use Rattle.hl_rules.specs.DeclarationRules.{has_numthreads}
 use Rattle.hl_values.specs.ScopeViews.{scope_of}

@@ -1,4 +1,4 @@
-use Rattle.std.proofs.Common.{◌≡◌, ◌∙◌, sym, ap}
+use Rattle.std.proofs.Common.{◌∙◌, sym, ap}
 use Rattle.hl_parser.specs.Views.{plain_trees}
 use Rattle.hl_rules.specs.Elaboration.{thread_numbers}
 use Rattle.hl_values.specs.ScopeViews.{scope_of}

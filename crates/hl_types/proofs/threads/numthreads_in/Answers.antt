@@ -1,4 +1,4 @@
-use Rattle.std.proofs.Common.{◌≡◌, ◌∙◌, sym, ap, if◌then◌else◌, None, Some}
+use Rattle.std.proofs.Common.{◌∙◌, sym, ap, if◌then◌else◌, None, Some}
 use Rattle.hl_parser.specs.Views.{plain_of, plain_trees}
 use Rattle.hl_parser.proofs.Plain.{plain-Attribute}
 use Rattle.hl_values.specs.ScopeViews.{scope_of}

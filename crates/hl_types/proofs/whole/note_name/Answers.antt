@@ -1,4 +1,4 @@
-use Rattle.std.proofs.Common.{◌≡◌, ◌∙◌, refl, ap, is_some}
+use Rattle.std.proofs.Common.{◌∙◌, refl, ap, is_some}
 use Rattle.hl_rules.specs.Intrinsics.{intrinsic_named}
 use Rattle.hl_types.proofs.WholeLemmas.{judged-with}
 use Rattle.hl_types.proofs.whole.note_name.Goals as goal

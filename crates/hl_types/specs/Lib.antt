@@ -1,0 +1,4 @@
+pub mod Semantics
+pub mod Signatures
+pub mod Threads
+pub mod Whole

@@ -1,4 +1,4 @@
-//! Elaboration: the typed program of a tree, or the first typing rule that it breaks.
+//! Declarations: registers, semantics, threads, returns, and the typing rules on whole functions.
 #![tactic(auto)]
 
 mod registers;

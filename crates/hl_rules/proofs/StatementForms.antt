@@ -145,10 +145,10 @@ mutual
       (condition-made claim s condition body.sound shape.1 (free-left (condition_sites s condition) (statement_sites (looped s) inside) inner))
       (statement-made claim (looped s) (body-looped s body) inside shape.2 (free-right (condition_sites s condition) (statement_sites (looped s) inside) inner))
   part-made claim s body (a_do at attributes inside condition) shape free =
-      let inner = free-right (attributes_sites s attributes) (statement_sites (looped s) inside ++ condition_sites s condition) free in
+      let inner = free-right (attributes_sites s attributes) (condition_sites s condition ++ statement_sites (looped s) inside) free in
       do-made s (statement_variables (looped s) inside) (condition_code s condition) (statement_code (looped s) inside) (always_returns s.tokens inside)
-      (condition-made claim s condition body.sound shape.2 (free-right (statement_sites (looped s) inside) (condition_sites s condition) inner))
-      (statement-made claim (looped s) (body-looped s body) inside shape.1 (free-left (statement_sites (looped s) inside) (condition_sites s condition) inner))
+      (condition-made claim s condition body.sound shape.2 (free-left (condition_sites s condition) (statement_sites (looped s) inside) inner))
+      (statement-made claim (looped s) (body-looped s body) inside shape.1 (free-right (condition_sites s condition) (statement_sites (looped s) inside) inner))
   part-made claim s body (a_jump at absent) shape free = jump-made s body (terminal_at s.tokens at) at shape free
   part-made claim s body (a_jump at (present value)) shape free =
       subst (λ r. IsMade s [] (return_code s value) r) (ap is_return_word (sym shape.0)) (return-made claim s body at value shape.1 free)

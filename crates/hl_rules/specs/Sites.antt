@@ -214,7 +214,7 @@ abbrev mutual
   statement_sites s (a_while at attributes condition body) =
       attributes_sites s attributes ++ (condition_sites s condition ++ statement_sites (looped s) body)
   statement_sites s (a_do at attributes body condition) =
-      attributes_sites s attributes ++ (statement_sites (looped s) body ++ condition_sites s condition)
+      attributes_sites s attributes ++ (condition_sites s condition ++ statement_sites (looped s) body)
   statement_sites s (a_jump at absent) = jump_sites s (terminal_at s.tokens at) at
   statement_sites s (a_jump at (present value)) =
       value_sites s value

@@ -1,6 +1,6 @@
 -- Initialisers become values of their types.
 use Rattle.std.proofs.Common.{◌≡◌, ◌∙◌, refl, sym, ap, subst, ℕ, zero, suc, Bool, true, false, ◌&&◌, ◌||◌, List, [], ◌∷◌, ◌++◌, length, map, Option, Some, arith}
-use Rattle.std.specs.Prelude.{◌==◌, not, option_map, replicate, sum_by}
+use Rattle.std.specs.Prelude.{◌==◌, not, option_and_then, option_map, replicate, sum_by}
 use Rattle.std.specs.List.{list_all, list_any}
 use Rattle.std.proofs.lemmas.List.{append-nil, length-map}
 use Rattle.std.proofs.lemmas.List.Sums.{sum_by-cons}
@@ -168,7 +168,10 @@ brace-made claim s sound ty known at parts shape free = given (leaf-values claim
     given : AreLeafValues s (kinds_of (struct_defs s.structs) known.type) (leaves_among parts) → IsInitValue s known.type (init_code s known.type (an_init at absent parts))
     given leaves = record {
       to = an_expr known.type at (build_form leaves.to);
-      is = ap (λ o. option_map (λ l. an_expr known.type at (build_form l)) o) leaves.is;
+      is =
+          ap (λ o. option_and_then (λ words. option_map (λ l. an_expr known.type at (build_form l)) (leaf_codes s (kinds_of (struct_defs s.structs) known.type) (leaves_among parts))) o)
+          (type_words-known s.structs known.type sound.structs (below-known s known.type known.known))
+          ∙ ap (λ o. option_map (λ l. an_expr known.type at (build_form l)) o) leaves.is;
       type = refl;
       made = λ env fits. (
         declared-result env.structs known.type (declared-there env s known.type sound (names-fit env s fits) known.known),

@@ -40,11 +40,12 @@ leaf_codes s (kind ∷ kinds) (leaf ∷ leaves) =
     with_two (λ first rest. Some (more_exprs first rest)) (value_in s (scalar_type kind) leaf) (leaf_codes s kinds leaves)
 leaf_codes s _ _ = None
 
--- an initialiser of a type
+-- an initialiser of a type; one in braces becomes nothing where the words of its type aren't known
 abbrev pub init_code : Scope → Ty → Tree → Option Expr
 init_code s ty (an_init at (present value) parts) = value_in s ty value
 init_code s ty (an_init at absent parts) =
-    option_map (λ leaves. an_expr ty at (build_form leaves)) (leaf_codes s (kinds_of (struct_defs s.structs) ty) (leaves_among parts))
+    option_and_then (λ words. option_map (λ leaves. an_expr ty at (build_form leaves)) (leaf_codes s (kinds_of (struct_defs s.structs) ty) (leaves_among parts)))
+    (type_words s.structs ty)
 init_code s ty _ = None
 
 abbrev pub init_code_if : Scope → Ty → Maybe → Option (Option Expr)

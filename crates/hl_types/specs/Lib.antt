@@ -1,4 +1,11 @@
+pub mod Arguments
+pub mod Calls
+pub mod Items
+pub mod Kinds
+pub mod Leaves
+pub mod Postfix
 pub mod Semantics
 pub mod Signatures
 pub mod Threads
+pub mod Walks
 pub mod Whole

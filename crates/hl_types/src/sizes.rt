@@ -1,9 +1,10 @@
 //! How large types may be.
 
-ghost use Rattle.std.specs.Prelude.{◌≡◌, ℕ, Option, nat_lt, option_map};
+ghost use Rattle.std.specs.Prelude.{◌≡◌, ℕ, Option, nat_lt, option_map, unwrap_or, IfOk};
 ghost use Rattle.hl_rules.specs.DeclarationRules as rules;
 ghost use Rattle.hl_values.specs.WordCounts.{counted};
 
+use base_core::NoMemory;
 use hl_values::WordCount;
 
 /// The greatest number of words of a type.
@@ -29,5 +30,22 @@ pub(crate) fn is_more(most: u64, words: Option<WordCount>) -> bool
     match words {
         Some(words) => is_above(most, words),
         None => false,
+    }
+}
+
+/// So many words, where a type has them, and 0 for one that has none.
+///
+/// # Errors
+/// `NoMemory` for 4294967296 words or more.
+pub(crate) fn few_words(words: Option<WordCount>) -> Result<u32, NoMemory>
+    ensures { (known : Option ℕ) → words ≡ option_map counted known → IfOk result (λ few. few ≡ unwrap_or known 0) }
+{
+    match words {
+        None => Ok(0),
+        Some(WordCount::Few(words)) => match u32::try_from(words) {
+            Ok(words) => Ok(words),
+            Err(_) => Err(NoMemory),
+        },
+        Some(WordCount::Many) => Err(NoMemory),
     }
 }

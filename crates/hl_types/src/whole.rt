@@ -18,7 +18,7 @@ use hl_values::{ParamInfo, Scope, intrinsic_named};
 
 /// Whether a name, the token of an index, is the entry's.
 #[tactic(auto, unfolding(hl_values::specs::ScopeViews::scope_of))]
-fn is_entry_name(scope: &Scope, name: usize) -> bool
+pub(crate) fn is_entry_name(scope: &Scope, name: usize) -> bool
     ensures { result ≡ bytes_eq (spelled (scope_of scope.now) name) (scope_of scope.now).entry }
 {
     scope.text_at(name) == scope.entry
@@ -33,7 +33,7 @@ pub(crate) fn is_entry(scope: &Scope, name: usize) -> bool
 
 /// Whether a function has the entry's name.
 #[tactic(auto, unfolding(hl_values::specs::ScopeViews::scope_of))]
-fn is_entry_there(scope: &Scope) -> bool
+pub(crate) fn is_entry_there(scope: &Scope) -> bool
     ensures { result ≡ is_function (scope_of scope.now) (scope_of scope.now).entry }
 {
     scope.is_function(scope.entry)

@@ -3,7 +3,7 @@ use Rattle.std.proofs.Common.{◌≡◌, ◌∙◌, refl, sym, ap, ℕ, suc, ◌
 use Rattle.std.proofs.lemmas.Bool.{cases_lt, lt-ltb, le-ltb}
 use Rattle.std.specs.List.{position_or_len}
 use Rattle.std.proofs.lemmas.List.Folds.{find_at}
-use Rattle.std.proofs.lemmas.Option.{slice_get_past}
+use Rattle.std.proofs.lemmas.Option.{none-some, same_Some, slice_get_past}
 use Rattle.std.proofs.lemmas.Slice.Eq.{bytes_eq-Decides}
 use Rattle.hl_values.specs.NameTables.{first_named, is_named, positions_from}
 
@@ -82,3 +82,14 @@ module _ {T : Type 0} (name : List ℕ) where
       by : (position_or_len (is_named name) table < length table) ⊎ (length table ≤ position_or_len (is_named name) table) → first_named table name ≡ None
       by (inl below) = none (e ∙ ap (λ b. cond b (Some (position_or_len (is_named name) table)) None) (lt-ltb (position_or_len (is_named name) table) (length table) below))
       by (inr above) = first_named-at table ∙ ap (λ o. option_map (λ e. e.1) o) (slice_get_past table (position_or_len (is_named name) table) above)
+
+  -- it stands among them
+  pub position-within : (table : List (List ℕ × T)) (at : ℕ) → Some at ≡ position (is_named name) table → at < length table
+  position-within table at e = by (cases_lt (position_or_len (is_named name) table) (length table))
+    where
+      here : position_or_len (is_named name) table < length table → Some at ≡ Some (position_or_len (is_named name) table) → at < length table
+      here below h = rw (same_Some at (position_or_len (is_named name) table) h) below
+
+      by : (position_or_len (is_named name) table < length table) ⊎ (length table ≤ position_or_len (is_named name) table) → at < length table
+      by (inl below) = here below (e ∙ ap (λ b. cond b (Some (position_or_len (is_named name) table)) None) (lt-ltb (position_or_len (is_named name) table) (length table) below))
+      by (inr above) = absurd (none-some at (ap (λ b. cond b (Some (position_or_len (is_named name) table)) None) (sym (le-ltb (position_or_len (is_named name) table) (length table) above)) ∙ sym e))

@@ -28,14 +28,14 @@ use std::alloc::Global;
 
 /// A function that is called: its number, and its parameters.
 #[derive(Drop)]
-pub(crate) struct Callee {
+pub struct Callee {
     pub number: u32,
     pub params: Params,
 }
 
 /// What the call of a function chooses.
 #[derive(Drop)]
-pub(crate) enum Choice {
+pub enum Choice {
     /// It isn't known, since an argument or a parameter has no type.
     Unknown,
     /// No function.
@@ -47,7 +47,7 @@ pub(crate) enum Choice {
 ///
 /// # Errors
 /// `NoMemory` where memory is refused, or where there are more than 2^32 functions.
-pub(crate) fn choice_of_call(
+pub fn choice_of_call(
     scope: &Scope,
     name: &[u8],
     args: &[Typed],
@@ -142,7 +142,7 @@ fn params_known(params: &[ParamInfo], alloc: Global) -> Result<Option<Params>, N
 ///
 /// # Errors
 /// `NoMemory` where memory is refused.
-pub(crate) fn function_result(
+pub fn function_result(
     scope: &Scope,
     number: u32,
     alloc: Global,
@@ -159,7 +159,7 @@ pub(crate) fn function_result(
 ///
 /// # Errors
 /// `NoMemory` where memory is refused.
-pub(crate) fn function_code(
+pub fn function_code(
     gives: Option<HlType>,
     at: usize,
     callee: &Callee,

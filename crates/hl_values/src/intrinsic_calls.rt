@@ -43,11 +43,7 @@ pub(crate) fn argument_types(
 ///
 /// # Errors
 /// `NoMemory` where memory is refused.
-pub(crate) fn intrinsic_type(
-    number: u8,
-    args: &[Typed],
-    alloc: Global,
-) -> Result<Option<HlType>, NoMemory>
+pub fn intrinsic_type(number: u8, args: &[Typed], alloc: Global) -> Result<Option<HlType>, NoMemory>
     ensures { IfOk result (λ ty. plain_type_if ty ≡ intrinsic_type number (map plain_value args.now)) }
 {
     let Some(types) = argument_types(args, alloc)? else {
@@ -82,7 +78,7 @@ fn given_type(number: u8, types: &[HlType], alloc: Global) -> Result<Option<HlTy
 ///
 /// # Errors
 /// `NoMemory` where memory is refused.
-pub(crate) fn intrinsic_code(
+pub fn intrinsic_code(
     at: usize,
     number: u8,
     codes: Vec<Code>,

@@ -72,10 +72,10 @@ impl<'a> Scope<'a> {
     }
 
     /// The number of the member of a name, in the struct of a number.
-    pub fn member_number(&self, number: usize, name: &[u8]) -> Option<usize>
+    pub fn member_number(&self, number: usize, name: &[u8]) -> Option<u32>
         ensures { result ≡ values.member_number (values.members_of (scope_of self.now) number) name.now }
     {
-        self.structs.members(number)?.position(name)
+        self.structs.members(number)?.number(name)
     }
 
     /// The type of the member of a name, in the struct of a number.

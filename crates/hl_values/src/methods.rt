@@ -31,7 +31,7 @@ use std::alloc::Global;
 // ---- names
 
 /// The method of a name that a buffer has.
-pub(crate) fn method_of(buffer: &BufferInfo, name: &[u8]) -> Option<Method>
+pub fn method_of(buffer: &BufferInfo, name: &[u8]) -> Option<Method>
     ensures { result ≡ method_of (plain_buffer buffer.now) name.now }
 {
     if !buffer.raw {
@@ -113,7 +113,7 @@ fn writing_method(name: &[u8]) -> Option<Method>
 // ---- types
 
 /// Whether all arguments have types.
-pub(crate) fn have_types(args: &[Typed]) -> bool
+pub fn have_types(args: &[Typed]) -> bool
     ensures { result ≡ is_some (argument_types (map plain_value args.now)) }
 {
     for arg in args {
@@ -142,7 +142,7 @@ fn is_address(arg: &Typed) -> bool
 }
 
 /// Whether the arguments of a method, which all have types, fit it.
-pub(crate) fn method_fits(method: Method, args: &[Typed]) -> bool
+pub fn method_fits(method: Method, args: &[Typed]) -> bool
     ensures { result ≡ method_fits method (map plain_value args.now) }
 {
     let Some((first, rest)) = args.split_first() else {
@@ -204,7 +204,7 @@ pub(crate) fn copied_if(ty: &Option<HlType>, alloc: Global) -> Result<Option<HlT
 ///
 /// # Errors
 /// `NoMemory` where memory is refused.
-pub(crate) fn method_type(
+pub fn method_type(
     buffer: &BufferInfo,
     name: &[u8],
     args: &[Typed],
@@ -230,7 +230,7 @@ pub(crate) fn method_type(
 /// The call of a method: the index of its first token, its buffer with its number, the index of the first token of its
 /// first argument, and the constant number that this argument is, if it is one.
 #[derive(Clone, Copy)]
-pub(crate) struct MethodCall<'a> {
+pub struct MethodCall<'a> {
     pub at: usize,
     pub buffer: &'a BufferInfo,
     pub number: u32,
@@ -242,7 +242,7 @@ pub(crate) struct MethodCall<'a> {
 ///
 /// # Errors
 /// `NoMemory` where memory is refused.
-pub(crate) fn method_code(
+pub fn method_code(
     call: MethodCall,
     method: Method,
     codes: Vec<Code>,
@@ -380,7 +380,7 @@ fn loaded_element(
 ///
 /// # Errors
 /// `NoMemory` where memory is refused.
-pub(crate) fn element_in(
+pub fn element_in(
     buffer: &BufferInfo,
     resource: u32,
     index: Boxed<Expr>,

@@ -105,6 +105,16 @@ impl<'a, T> NameTable<'a, T> {
         self.positions(name).first().copied()
     }
 
+    /// The position of the first entry of a name, as a number.
+    pub fn number(&self, name: &[u8]) -> Option<u32>
+        ensures { result ≡ position (is_named name.now) self.now }
+    {
+        let at = self.position(name)?;
+        // the entries are few enough
+        let _ = &self.entries;
+        Some(at as u32)
+    }
+
     /// What the entry at a position stands for, or none past the end.
     pub fn value_at(&self, at: usize) -> Option<&T>
         ensures { option_copied result ≡ option_map (λ e. e.1) (slice_get self.now at) }

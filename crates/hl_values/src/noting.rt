@@ -5,14 +5,17 @@ ghost use Rattle.std.specs.Option.{is_none, option_copied};
 ghost use Rattle.hl_meaning.specs.Types.{is_scalar};
 ghost use Rattle.hl_meaning.specs.Views.{plain_ty};
 ghost use Rattle.hl_meaning.specs.Conversions.{converts};
+ghost use Rattle.hl_rules.specs.DeclarationRules.{is_other_sort, is_variable_sort};
 ghost use Rattle.hl_rules.specs.ExpressionRules.{is_no_conversion};
 ghost use Rattle.hl_rules.specs.Values.{is_known, is_nothing, valued};
-ghost use Rattle.hl_values.specs.Noted.{noted_assigned, noted_cast, noted_conversion, noted_operand, noted_prefix, noted_side, noted_use, noted_written};
+ghost use Rattle.hl_values.specs.Noted.{noted_assigned, noted_cast, noted_conversion, noted_operand, noted_prefix, noted_side, noted_use, noted_variable, noted_written};
+ghost use Rattle.hl_values.specs.ScopeViews.{plain_sort_if, scope_of};
 ghost use Rattle.hl_values.specs.Views.{plain_standing, plain_type_if, plain_value};
 
 use crate::basic::is_void;
 use crate::operators::{Operator, is_no_operand, valued};
 use crate::parts::type_of_two;
+use crate::scope::{Scope, Sort};
 use crate::typed::{Standing, Typed};
 use hl_lexer::Terminal;
 use hl_meaning::HlType;
@@ -141,4 +144,24 @@ pub fn note_assigned(
             note_conversion(&gives, &left.ty, right_at, found);
         }
     }
+}
+
+/// Whether a name is declared, and is no variable.
+fn is_no_variable(sort: Option<&Sort>) -> bool
+    ensures { result ≡ is_other_sort is_variable_sort (plain_sort_if (option_copied sort.entry)) }
+{
+    match sort {
+        Some(Sort::Variable(_)) => false,
+        Some(_) => true,
+        None => false,
+    }
+}
+
+/// Notes the name of a variable that isn't declared, or is something else.
+pub fn note_variable(scope: &Scope, at: usize, found: &mut Option<Broken>)
+    ensures { found.new ≡ noted_variable found.old (scope_of scope.now) at }
+{
+    let sort = scope.sort_at(at);
+    note_if(found, sort.is_none(), at, 3);
+    note_if(found, is_no_variable(sort), at, 4);
 }

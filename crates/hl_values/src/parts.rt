@@ -26,7 +26,7 @@ use hl_meaning::HlType;
 use std::alloc::Global;
 
 /// A value that is no place and no constant number.
-pub(crate) fn value(ty: Option<HlType>, code: Option<Code>) -> Typed
+pub fn value(ty: Option<HlType>, code: Option<Code>) -> Typed
     ensures { plain_known result ≡ known_value (plain_type_if ty) (plain_code_if code) }
 {
     Typed {

@@ -1,11 +1,11 @@
 //! Whole expressions, of what is known of their operands: what is known of them, and the typing rules that they break.
 
 ghost use Rattle.std.specs.Prelude.{◌≡◌, IfOk, None, OnOk, Option};
-ghost use Rattle.hl_parser.specs.Trees.{a_binary, a_choice, a_postfix, a_unary, absent, an_expr, at_of, present};
+ghost use Rattle.hl_parser.specs.Trees.{a_binary, a_choice, a_postfix, a_primary, a_unary, absent, an_expr, at_of, present};
 ghost use Rattle.hl_parser.specs.Views.{plain_maybe, plain_of};
 ghost use Rattle.hl_rules.specs.declared.found.Broken.{Broken as BrokenRule};
 ghost use Rattle.hl_rules.specs.Rules.{noted};
-ghost use Rattle.hl_rules.specs.Sites.{expression_sites};
+ghost use Rattle.hl_rules.specs.Sites.{expression_sites, word_sites};
 ghost use Rattle.hl_rules.specs.Source as source;
 ghost use Rattle.hl_rules.specs.Values.{value_of};
 ghost use Rattle.hl_values.specs.Basics.{production_of};
@@ -14,20 +14,50 @@ ghost use Rattle.hl_values.specs.ScopeViews.{scope_of};
 ghost use Rattle.hl_values.specs.TypedViews.{IsTyped};
 
 use crate::noting::{
-    note_assigned, note_cast, note_operand, note_prefix, note_side, note_use, note_written,
+    note_assigned, note_cast, note_operand, note_prefix, note_side, note_use, note_variable,
+    note_written,
 };
 use crate::operators::Operator;
 use crate::parts::{assignment, binary, cast, choice, prefix, step};
 use crate::scope::Scope;
 use crate::typed::Typed;
+use crate::word::word;
 use base_core::NoMemory;
+use hl_lexer::Terminal;
 use hl_parser::Tree;
 use hl_rules::Broken;
 use sqlite_items::Boxed;
 use std::alloc::Global;
 
+/// Notes a token alone, which breaks rules where it is a name and no variable.
+fn note_word(scope: &Scope, at: usize, found: &mut Option<Broken>)
+    ensures { found.new ≡ noted found.old (word_sites (scope_of scope.now) (source.terminal_at (scope_of scope.now).tokens at) at) }
+{
+    match scope.terminal_at(at) {
+        Terminal::Name => note_variable(scope, at, found),
+        _ => {}
+    }
+}
+
+/// A token alone: a number, a truth value or a name.
+///
+/// # Errors
+/// `NoMemory` where memory is refused, as in each function below.
+pub fn whole_word(
+    scope: &Scope,
+    at: usize,
+    found: &mut Option<Broken>,
+    alloc: Global,
+) -> Result<Typed, NoMemory>
+    ensures typed { IfOk result (λ t. IsTyped (scope_of scope.now) (a_primary at absent absent) t) }
+    ensures found { OnOk result (found.new ≡ noted found.old (expression_sites (scope_of scope.now) (a_primary at absent absent))) }
+{
+    note_word(scope, at, found);
+    word(scope, at, alloc)
+}
+
 /// An operator between two operands, behind the sites of both and what its left one breaks.
-pub(crate) fn whole_binary(
+pub fn whole_binary(
     scope: &Scope,
     operator: Operator,
     at: usize,
@@ -48,8 +78,31 @@ pub(crate) fn whole_binary(
     binary(scope, operator, at, mark, first, second, alloc)
 }
 
+/// `?:`, behind the sites of the three operands and what the condition and the first branch break.
+pub fn whole_choice(
+    scope: &Scope,
+    at: usize,
+    condition: &Tree,
+    consequent: &Tree,
+    alternative: &Tree,
+    first: Typed,
+    second: Typed,
+    third: Typed,
+    found: &mut Option<Broken>,
+    alloc: Global,
+) -> Result<Typed, NoMemory>
+    requires first { IsTyped (scope_of scope.now) (plain_of condition.now) first }
+    requires second { IsTyped (scope_of scope.now) (plain_of consequent.now) second }
+    requires third { IsTyped (scope_of scope.now) (plain_of alternative.now) third }
+    ensures typed { IfOk result (λ t. IsTyped (scope_of scope.now) (a_choice at (plain_of condition.now) (plain_of consequent.now) (plain_of alternative.now)) t) }
+    ensures found { OnOk result ((f : Option BrokenRule) → found.old ≡ noted (noted_operand (noted (noted_operand (noted f (expression_sites (scope_of scope.now) (plain_of condition.now))) (value_of (scope_of scope.now) (plain_of condition.now)) (at_of (plain_of condition.now))) (expression_sites (scope_of scope.now) (plain_of consequent.now))) (value_of (scope_of scope.now) (plain_of consequent.now)) (at_of (plain_of consequent.now))) (expression_sites (scope_of scope.now) (plain_of alternative.now)) → found.new ≡ noted f (expression_sites (scope_of scope.now) (a_choice at (plain_of condition.now) (plain_of consequent.now) (plain_of alternative.now)))) }
+{
+    note_operand(&third, alternative.at(), found);
+    choice(at, first, second, third, alloc)
+}
+
 /// A cast, or an operator before an operand, behind the sites of the operand.
-pub(crate) fn whole_unary(
+pub fn whole_unary(
     scope: &Scope,
     at: usize,
     basic: &Option<Boxed<Tree>>,
@@ -77,7 +130,7 @@ pub(crate) fn whole_unary(
 }
 
 /// `++` or `--` behind an operand, behind the sites of the operand.
-pub(crate) fn whole_step(
+pub fn whole_step(
     scope: &Scope,
     at: usize,
     mark: usize,
@@ -96,7 +149,7 @@ pub(crate) fn whole_step(
 }
 
 /// An assignment, behind the sites of both sides and what the left one breaks.
-pub(crate) fn whole_assignment(
+pub fn whole_assignment(
     scope: &Scope,
     at: usize,
     mark: usize,

@@ -13,6 +13,6 @@ returns-in_err-members c =
 pub returns : goal.returns
 unfolding scope_of
 returns c =
-    c.position.ensures ∙
+    c.number.ensures ∙
     sym (ap (λ members. member_number members c.args.name.now) (members-known c.args.self.now.structs c.args.number (Some c.in_ok-members.field-0.now) c.in_ok-members.ensures) ∙
     member-number c.in_ok-members.field-0.now c.args.name.now)

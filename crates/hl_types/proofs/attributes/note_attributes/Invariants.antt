@@ -1,0 +1,10 @@
+use Rattle.std.proofs.Common.{◌≡◌, drop}
+use Rattle.hl_parser.specs.Views.{plain_trees}
+use Rattle.hl_rules.specs.Rules.{noted}
+use Rattle.hl_rules.specs.Sites.{attributes_sites}
+use Rattle.hl_values.specs.ScopeViews.{scope_of}
+use Rattle.hl_types.proofs.attributes.note_attributes.Given as goal
+
+abbrev pub invariant-loop-tree : goal.invariant-loop-tree
+invariant-loop-tree l =
+    noted l.found (attributes_sites (scope_of l.scope) (plain_trees (drop l.tree-index l.tree-items))) ≡ noted l.initial.found (attributes_sites (scope_of l.scope) (plain_trees l.tree-items))

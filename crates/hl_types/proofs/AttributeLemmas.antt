@@ -1,14 +1,14 @@
 -- Attributes of functions, one behind the other.
-use Rattle.std.proofs.Common.{◌≡◌, ◌∙◌, refl, sym, ap, ℕ, Bool, true, false, not, ◌&&◌, ◌||◌, if◌then◌else◌, List, [], ◌∷◌, ◌++◌, Option, None, Some, is_some, append_assoc}
+use Rattle.std.proofs.Common.{◌≡◌, ◌∙◌, refl, sym, ap, ℕ, Bool, true, false, not, ◌&&◌, ◌||◌, if◌then◌else◌, [], ◌∷◌, ◌++◌, Option, None, Some, is_some, append_assoc}
 use Rattle.hl_parser.specs.declared.tree.Tree.{Tree, Tree-F, out-Tree}
 use Rattle.hl_parser.specs.declared.tree.Tree.TheVariants.{rolls-Attribute, rolls-Result}
 use Rattle.hl_parser.specs.Trees as plain
 use Rattle.hl_parser.specs.Trees.{Trees, more_trees, no_trees, an_attribute}
-use Rattle.hl_parser.specs.Views.{plain_of, plain_trees}
+use Rattle.hl_parser.specs.Views.{plain_of}
 use Rattle.hl_rules.specs.declared.found.Broken.{Broken}
 use Rattle.hl_rules.specs.DeclarationRules.{have_threads}
 use Rattle.hl_rules.specs.Found.{breaking, broken_if, gathered}
-use Rattle.hl_rules.specs.Parts.{Site, a_function_attribute, site}
+use Rattle.hl_rules.specs.Parts.{a_function_attribute, site}
 use Rattle.hl_rules.specs.Rules.{noted}
 use Rattle.hl_rules.specs.Scopes.{Scope}
 use Rattle.hl_rules.specs.Sites.{arguments_sites, function_attributes_sites, is_numthreads, result_sites}

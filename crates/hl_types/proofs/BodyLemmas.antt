@@ -1,8 +1,7 @@
 -- Bodies of functions.
-use Rattle.std.proofs.Common.{◌≡◌, ◌∙◌, refl, sym, ap, subst, ℕ, List, [], ◌∷◌, ◌++◌, Option, None, append-nil}
+use Rattle.std.proofs.Common.{◌≡◌, ◌∙◌, refl, sym, ap, subst, [], None}
 use Rattle.hl_parser.specs.declared.tree.Tree.{Tree, Tree-F, out-Tree}
 use Rattle.hl_parser.specs.declared.tree.Tree.TheVariants.{rolls-Block}
-use Rattle.hl_parser.specs.declared.tree.Tree.TheVariants as variants
 use Rattle.hl_parser.specs.Trees as plain
 use Rattle.hl_parser.specs.Trees.{Trees}
 use Rattle.hl_parser.specs.Views.{plain_of}

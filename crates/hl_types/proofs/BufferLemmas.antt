@@ -1,5 +1,5 @@
 -- Buffers of their kinds.
-use Rattle.std.proofs.Common.{◌≡◌, ◌∙◌, refl, sym, ap, subst, ℕ, Bool, true, false, not, List, [], ◌∷◌, ◌++◌, Option, None, Some, is_some, is_none}
+use Rattle.std.proofs.Common.{◌≡◌, ◌∙◌, refl, sym, ap, subst, ℕ, Bool, true, false, not, [], ◌∷◌, Option, None, Some, is_some, is_none}
 use Rattle.hl_parser.specs.declared.tree.Tree.{Tree, Tree-F, out-Tree}
 use Rattle.hl_parser.specs.declared.tree.Tree.TheVariants.{rolls-Kind}
 use Rattle.hl_parser.specs.declared.tree.Tree.TheVariants as variants
@@ -12,7 +12,7 @@ use Rattle.hl_rules.specs.Constants.{named_type}
 use Rattle.hl_rules.specs.Declarations.{buffer_info, element_of, is_there, is_writable_kind}
 use Rattle.hl_rules.specs.DeclarationRules.{is_more, register_number, space_number}
 use Rattle.hl_rules.specs.Found.{breaking, broken_if, gathered}
-use Rattle.hl_rules.specs.Parts.{Site, a_register, a_space, an_element, site}
+use Rattle.hl_rules.specs.Parts.{a_register, a_space, an_element, site}
 use Rattle.hl_rules.specs.Rules.{noted}
 use Rattle.hl_rules.specs.Scopes.{BufferInfo, Scope, words_if}
 use Rattle.hl_rules.specs.Sites.{element_sites, register_sites, type_sites}

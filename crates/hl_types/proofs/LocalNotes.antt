@@ -1,6 +1,6 @@
 -- What declarations of local variables become, and what they break.
 use Rattle.std.proofs.Common.{◌≡◌, ◌∙◌, refl, sym, ap, ℕ, Bool, List, [], ◌∷◌, ◌++◌, length, Option, None, Some, option_map, option_and_then, is_some}
-use Rattle.hl_parser.specs.Trees.{Tree, Trees, Maybe, absent, present, a_local, a_start, an_init, at_of}
+use Rattle.hl_parser.specs.Trees.{Tree, Trees, Maybe, present, a_local, a_start, an_init, at_of}
 use Rattle.hl_meaning.specs.declared.expression.Expr.{Expr as HeldExpr}
 use Rattle.hl_meaning.specs.declared.statement.Stmt.{Stmt as HeldStmt}
 use Rattle.hl_meaning.specs.declared.statement.Stmt.TheVariants as stmts
@@ -14,7 +14,6 @@ use Rattle.hl_rules.specs.Constants.{declarator_type, named_type}
 use Rattle.hl_rules.specs.Declarations.{after_first, after_starts}
 use Rattle.hl_rules.specs.Expressions.{value_in}
 use Rattle.hl_rules.specs.Values.{type_in}
-use Rattle.hl_rules.specs.Found.{breaking, broken_if, gathered}
 use Rattle.hl_rules.specs.Parts.{a_conversion, a_local_name, site}
 use Rattle.hl_rules.specs.Rules.{noted}
 use Rattle.hl_rules.specs.Scopes.{Scope, opened}

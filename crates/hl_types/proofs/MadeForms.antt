@@ -1,12 +1,11 @@
 -- Statements of their parts, as plain data.
-use Rattle.std.proofs.Common.{◌≡◌, ◌∙◌, refl, sym, ap, ℕ, List, [], ◌∷◌, ◌++◌, length, map, Option, None, Some, option_map, slice_get, arith}
-use Rattle.std.proofs.lemmas.List.{map-append}
+use Rattle.std.proofs.Common.{◌≡◌, ◌∙◌, refl, sym, ap, List, [], ◌∷◌, ◌++◌, length, Option, None, Some, option_map, slice_get, arith}
 use Rattle.hl_meaning.specs.declared.expression.Expr.{Expr}
 use Rattle.hl_meaning.specs.declared.statement.Stmt.{Stmt}
 use Rattle.hl_meaning.specs.declared.statement.Stmt.TheVariants as held
 use Rattle.hl_meaning.specs.Trees as plain
 use Rattle.hl_meaning.specs.Trees.{block_stmt, do_stmt, for_stmt, if_stmt, run_stmt, some_stmt, while_stmt}
-use Rattle.hl_meaning.specs.Views.{plain_expr, plain_maybe_stmt, plain_stmt, plain_stmts, stmts_of}
+use Rattle.hl_meaning.specs.Views.{plain_expr, plain_maybe_stmt, plain_stmt, plain_stmts}
 use Rattle.hl_meaning.proofs.Plain.{plain_stmt-Block, plain_stmt-Do, plain_stmt-For, plain_stmt-If, plain_stmt-Run, plain_stmt-While}
 use Rattle.hl_rules.specs.Expressions.{with_three, with_two}
 use Rattle.hl_rules.specs.Statements.{append_stmts, appended, for_code, one_stmt, single}

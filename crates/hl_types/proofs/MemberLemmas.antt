@@ -13,16 +13,16 @@ use Rattle.hl_parser.specs.declared.tree.Tree.TheVariants.{rolls-Member}
 use Rattle.hl_parser.specs.declared.tree.Tree.TheVariants as variants
 use Rattle.hl_parser.specs.Trees as plain
 use Rattle.hl_parser.specs.Trees.{Trees, more_trees, no_trees, a_member, at_of}
-use Rattle.hl_parser.specs.Views.{plain_of, plain_trees}
+use Rattle.hl_parser.specs.Views.{plain_of}
 use Rattle.hl_meaning.specs.Types.{Ty}
 use Rattle.hl_rules.specs.declared.found.Broken.{Broken}
 use Rattle.hl_rules.specs.Constants.{declarator_type, named_type}
 use Rattle.hl_rules.specs.Declarations.{declarators_info, member_info, members_info}
-use Rattle.hl_rules.specs.Parts.{Site, a_member_name, site}
+use Rattle.hl_rules.specs.Parts.{a_member_name, site}
 use Rattle.hl_rules.specs.Rules.{noted}
 use Rattle.hl_rules.specs.Scopes.{MemberInfo, Scope, spelled}
 use Rattle.hl_rules.specs.Sites.{declarator_sites, declarators_sites, members_sites, type_sites}
-use Rattle.hl_rules.proofs.Noting.{noted-append, noted-first, noted-member_name}
+use Rattle.hl_rules.proofs.Noting.{noted-append, noted-member_name}
 use Rattle.hl_types.proofs.DeclaredShapes.{by_layer, layer, of_layer}
 
 abbrev pub IsNoMember : Tree → Type 0

@@ -1,7 +1,6 @@
 -- Parameters one behind the other.
-use Rattle.std.proofs.Common.{◌≡◌, ◌∙◌, refl, sym, ap, subst, ℕ, suc, ◌+◌, ◌<◌, ◌≤◌, Bool, true, false, not, ◌&&◌, ◌||◌, if◌then◌else◌, List, [], ◌∷◌, ◌++◌, length, map, take, drop, get_or, Option, None, Some, is_some, append_assoc, append-nil, add-one}
-use Rattle.std.proofs.lemmas.List.{drop_all, length_push, take_more}
-use Rattle.hl_lexer.specs.Tokens.{Lexeme}
+use Rattle.std.proofs.Common.{◌≡◌, ◌∙◌, refl, sym, ap, subst, ℕ, suc, ◌+◌, ◌<◌, Bool, true, false, not, ◌&&◌, ◌||◌, List, [], ◌∷◌, ◌++◌, length, take, get_or, Option, None, Some, is_some, append_assoc, add-one}
+use Rattle.std.proofs.lemmas.List.{length_push, take_more}
 use Rattle.hl_parser.specs.declared.tree.Tree.{Tree, Tree-F, out-Tree}
 use Rattle.hl_parser.specs.declared.tree.Tree.TheVariants.{rolls-Param}
 use Rattle.hl_parser.specs.declared.tree.Tree.TheVariants as variants
@@ -22,7 +21,7 @@ use Rattle.hl_rules.specs.Declarations.{after_param, after_params, param_copying
 use Rattle.hl_rules.specs.DeclarationRules.{has_semantic, is_copied_in, is_input, is_semantic_among, is_semantic_type, param_name, param_semantic, semantic_named}
 use Rattle.hl_rules.specs.Elaboration.{param_variable, param_variables, parameters_from}
 use Rattle.hl_rules.specs.Found.{breaking, broken_if, gathered}
-use Rattle.hl_rules.specs.Parts.{Site, a_local_name, an_entry_param, site}
+use Rattle.hl_rules.specs.Parts.{a_local_name, an_entry_param, site}
 use Rattle.hl_rules.specs.Rules.{noted}
 use Rattle.hl_rules.specs.Scopes.{ParamInfo, Scope, declared_in, innermost, spelled}
 use Rattle.hl_rules.specs.Sites.{and_tree, declarator_sites, entry_sites, param_sites, params_sites, type_sites}
@@ -32,7 +31,6 @@ use Rattle.hl_rules.proofs.Noting.{noted-append, noted-entry_param, noted-local_
 use Rattle.hl_types.specs.declared.semantics.Semantics.{Semantics}
 use Rattle.hl_types.specs.Semantics.{AreHeld, holds, is_input_behind}
 use Rattle.hl_types.proofs.DeclaredShapes.{by_layer, layer, of_layer}
-use Rattle.hl_types.proofs.Turns.{left-step, left-turn}
 
 -- ---- trees that are no parameters
 

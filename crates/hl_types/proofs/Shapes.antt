@@ -1,20 +1,18 @@
 -- Trees of no form that a walk looks for.
-use Rattle.std.proofs.Common.{◌≡◌, ◌∙◌, refl, sym, ap, subst, ℕ, Bool, List, [], Option, None, Some, option_map}
+use Rattle.std.proofs.Common.{◌≡◌, ◌∙◌, refl, sym, ap, subst, ℕ, Bool, List, [], Option, None, option_map}
 use Rattle.hl_parser.specs.declared.tree.Tree.{Tree, Tree-F, out-Tree}
 use Rattle.hl_parser.specs.declared.tree.Tree.TheVariants.{rolls-Attribute, rolls-Block, rolls-Declarator, rolls-Do, rolls-For, rolls-If, rolls-Init, rolls-Jump, rolls-Local, rolls-Start, rolls-Stmt, rolls-Type, rolls-While}
 use Rattle.hl_parser.specs.declared.tree.Tree.TheVariants as variants
 use Rattle.hl_parser.specs.Trees as plain
 use Rattle.hl_parser.specs.Trees.{Trees, more_trees, no_trees, present}
 use Rattle.hl_parser.specs.Views.{plain_of}
-use Rattle.hl_meaning.specs.Trees.{Expr, Stmts, run_stmt}
+use Rattle.hl_meaning.specs.Trees.{run_stmt}
 use Rattle.hl_meaning.specs.Types.{Ty}
-use Rattle.hl_meaning.specs.Programs.{Variable}
 use Rattle.hl_rules.specs.Constants.{declarator_type}
-use Rattle.hl_rules.specs.Declarations.{after_first, after_start, after_statement, locals_first}
+use Rattle.hl_rules.specs.Declarations.{after_first, after_start, after_statement}
 use Rattle.hl_rules.specs.Elaboration.{first_variables, start_variable, statement_variables}
 use Rattle.hl_rules.specs.Expressions.{value_code}
-use Rattle.hl_rules.specs.Parts.{Site}
-use Rattle.hl_rules.specs.Scopes.{Scope, behind, opened}
+use Rattle.hl_rules.specs.Scopes.{Scope, opened}
 use Rattle.hl_rules.specs.Sites.{attributes_sites, declarator_sites, expression_sites, first_sites, init_sites, start_sites, statement_sites, type_sites}
 use Rattle.hl_rules.specs.Statements.{first_code, init_code, one_stmt, start_code, statement_code}
 use Rattle.hl_types.proofs.Closing.{behind-none}

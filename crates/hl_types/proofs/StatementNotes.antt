@@ -1,8 +1,8 @@
 -- What statements leave of what is known, and what they break.
-use Rattle.std.proofs.Common.{◌≡◌, ◌∙◌, refl, sym, ap, ℕ, ◌+◌, Bool, List, [], ◌∷◌, ◌++◌, drop, Option, None, Some, append_assoc}
+use Rattle.std.proofs.Common.{◌≡◌, ◌∙◌, refl, sym, ap, ℕ, ◌+◌, Bool, List, [], ◌∷◌, ◌++◌, drop, Option, Some, append_assoc}
 use Rattle.hl_parser.specs.Trees.{Tree, Trees, Maybe, absent, present, a_local, a_for, an_if}
 use Rattle.hl_parser.specs.Trees.{a_do, a_stmt, a_while}
-use Rattle.hl_meaning.specs.Trees.{Expr, MaybeStmt, Stmts, do_stmt, for_stmt, if_stmt, while_stmt}
+use Rattle.hl_meaning.specs.Trees.{Expr, MaybeStmt, Stmts, do_stmt, if_stmt, while_stmt}
 use Rattle.hl_rules.specs.Expressions.{with_three, with_two}
 use Rattle.hl_rules.specs.Statements.{condition_code, condition_code_if, first_code_if, for_code, one_stmt, single, statement_code, statement_code_if, value_code_if}
 use Rattle.hl_types.specs.Walks.{after_part, part_code}
@@ -11,7 +11,7 @@ use Rattle.hl_rules.specs.Declarations.{after_first, after_statement, locals_amo
 use Rattle.hl_rules.specs.Parts.{Site}
 use Rattle.hl_rules.specs.Rules.{noted}
 use Rattle.hl_rules.specs.Scopes.{Named, Scope, behind, looped, opened}
-use Rattle.hl_rules.specs.Sites.{attributes_sites, condition_if, condition_sites, expression_if, first_if, statement_if, statement_sites}
+use Rattle.hl_rules.specs.Sites.{statement_if, statement_sites}
 use Rattle.hl_types.specs.Walks.{after_statements, closed, outer_blocks}
 use Rattle.hl_types.proofs.Closing.{behind-both, behind-none, closed-starts, closed-statement, closed-statements}
 use Rattle.hl_types.proofs.Walking.{noted-both, noted-three}

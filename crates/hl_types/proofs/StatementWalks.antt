@@ -1,12 +1,12 @@
 -- What a walk over a statement's parts says of the statement.
-use Rattle.std.proofs.Common.{◌≡◌, ◌∙◌, refl, sym, ap, ℕ, ◌+◌, Bool, List, [], ◌++◌, append-nil, is_some, Option, None, Some, option_map}
-use Rattle.hl_parser.specs.Trees.{Maybe, Tree, Trees, a_block, a_do, a_for, a_jump, a_local, a_stmt, a_while, absent, an_if, present}
+use Rattle.std.proofs.Common.{◌≡◌, ◌∙◌, refl, sym, ap, ℕ, ◌+◌, Bool, List, [], ◌++◌, is_some, Option, option_map}
+use Rattle.hl_parser.specs.Trees.{Maybe, Tree, Trees, a_block, a_do, a_for, a_jump, a_local, a_stmt, a_while, an_if, present}
 use Rattle.hl_meaning.specs.Programs.{Variable}
 use Rattle.hl_meaning.specs.Trees.{Stmts, block_stmt, some_stmt}
 use Rattle.hl_rules.specs.declared.found.Broken.{Broken}
 use Rattle.hl_rules.specs.Constants.{named_type}
 use Rattle.hl_rules.specs.Declarations.{after_starts, after_statement, locals_among, locals_first, locals_if, locals_in}
-use Rattle.hl_rules.specs.Elaboration.{first_variables, starts_variables, statement_variables, statements_variables, variables_if}
+use Rattle.hl_rules.specs.Elaboration.{starts_variables, statement_variables, statements_variables, variables_if}
 use Rattle.hl_rules.specs.Parts.{Site}
 use Rattle.hl_rules.specs.Rules.{noted}
 use Rattle.hl_rules.specs.Scopes.{Scope, behind, looped, opened}

@@ -15,10 +15,10 @@ use Rattle.hl_meaning.specs.Trees as plain
 use Rattle.hl_rules.specs.declared.found.Broken.{Broken}
 use Rattle.hl_meaning.specs.Conversions.{converts}
 use Rattle.hl_rules.specs.ExpressionRules.{is_no_conversion, is_void_result}
-use Rattle.hl_rules.specs.Expressions.{code_of, value_code, value_in}
+use Rattle.hl_rules.specs.Expressions.{value_code, value_in}
 use Rattle.hl_rules.specs.Found.{breaking, broken_if, gathered}
 use Rattle.hl_rules.specs.Nodes.{converted_code, value_of_code}
-use Rattle.hl_rules.specs.Parts.{a_condition, a_conversion, a_loop_jump, a_return, site}
+use Rattle.hl_rules.specs.Parts.{Site, a_condition, a_conversion, a_loop_jump, a_return, site}
 use Rattle.hl_rules.specs.Rules.{noted}
 use Rattle.hl_rules.specs.Scopes.{Scope}
 use Rattle.hl_rules.specs.Source.{terminal_at}
@@ -130,6 +130,11 @@ made-ok (Err no_memory) view x y is e = tt
 pub same-ok : {T E A : Type 0} (r : Result T E) (new x y : A) → OnOk r (new ≡ x) → x ≡ y → OnOk r (new ≡ y)
 same-ok (Ok made) new x y is e = is ∙ e
 same-ok (Err no_memory) new x y is e = tt
+
+-- what is noted behind what was noted before, where that is answered
+pub noted-ok : {T E : Type 0} (r : Result T E) (f0 f1 f2 : Option Broken) (a b : List Site) → f1 ≡ noted f0 a → OnOk r (f2 ≡ noted f1 b) → OnOk r (f2 ≡ noted f0 (a ++ b))
+noted-ok (Ok made) f0 f1 f2 a b first second = noted-both f0 f1 f2 a b first second
+noted-ok (Err no_memory) f0 f1 f2 a b first second = tt
 
 -- what is held of a scope
 pub result-is : (s : HeldScope) → plain_type_if s.result ≡ (scope_of s).result

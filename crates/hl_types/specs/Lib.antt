@@ -1,5 +1,7 @@
 pub mod Arguments
 pub mod Calls
+pub mod Elaborating
+pub mod Functions
 pub mod Items
 pub mod Kinds
 pub mod Leaves

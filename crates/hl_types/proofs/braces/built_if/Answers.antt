@@ -1,4 +1,4 @@
-use Rattle.std.proofs.Common.{◌≡◌, ◌∙◌, Option, sym, map, option_map}
+use Rattle.std.proofs.Common.{◌∙◌, Option, sym, map, option_map}
 use Rattle.std.proofs.lemmas.Result.{IfOk-weaker}
 use Rattle.hl_meaning.specs.Trees.{Expr, an_expr, build_form}
 use Rattle.hl_meaning.specs.Views.{plain_ty}

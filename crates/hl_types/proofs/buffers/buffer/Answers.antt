@@ -1,11 +1,10 @@
-use Rattle.std.proofs.Common.{◌≡◌, ◌∙◌, sym, ap, ◌++◌, ◌∷◌, [], map}
+use Rattle.std.proofs.Common.{◌∙◌, ap, ◌++◌, ◌∷◌, [], map}
 use Rattle.hl_meaning.specs.Views.{plain_resource}
 use Rattle.hl_parser.specs.Views.{plain_of}
-use Rattle.hl_rules.specs.Declarations.{buffer_info}
 use Rattle.hl_rules.specs.Elaboration.{resource}
 use Rattle.hl_rules.specs.Scopes.{BufferInfo}
 use Rattle.hl_values.specs.ScopeChanges.{with_buffer_named}
-use Rattle.hl_values.specs.ScopeViews.{plain_buffer, scope_of}
+use Rattle.hl_values.specs.ScopeViews.{scope_of}
 use Rattle.hl_types.proofs.DeclaredItems.{buffer-noted}
 use Rattle.hl_types.proofs.buffers.buffer.Goals as goal
 

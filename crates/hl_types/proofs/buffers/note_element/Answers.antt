@@ -1,4 +1,4 @@
-use Rattle.std.proofs.Common.{◌≡◌, ◌∙◌, sym, ap, option_map}
+use Rattle.std.proofs.Common.{◌∙◌, sym, ap, option_map}
 use Rattle.hl_parser.specs.Trees.{a_kind, present}
 use Rattle.hl_parser.specs.Views.{plain_maybe, plain_of}
 use Rattle.hl_parser.proofs.Plain.{plain-Kind}

@@ -1,4 +1,4 @@
-use Rattle.std.proofs.Common.{◌≡◌, ◌∙◌, sym, ap, None}
+use Rattle.std.proofs.Common.{◌∙◌, sym, ap, None}
 use Rattle.hl_rules.specs.Rules.{noted}
 use Rattle.hl_rules.specs.Sites.{register_sites}
 use Rattle.hl_rules.proofs.Noting.{noted-none}

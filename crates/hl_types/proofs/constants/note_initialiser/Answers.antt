@@ -1,4 +1,4 @@
-use Rattle.std.proofs.Common.{◌≡◌, ◌∙◌, sym, ap, ◌∷◌, []}
+use Rattle.std.proofs.Common.{◌∙◌, sym, ap, ◌∷◌, []}
 use Rattle.hl_parser.specs.Views.{plain_of}
 use Rattle.hl_rules.specs.Parts.{a_constant_init, site}
 use Rattle.hl_rules.specs.Rules.{noted}

@@ -1,5 +1,4 @@
-use Rattle.std.proofs.Common.{◌∙◌, sym, ap, refl}
-use Rattle.hl_parser.specs.Trees.{a_declarator}
+use Rattle.std.proofs.Common.{◌∙◌, sym, ap}
 use Rattle.hl_parser.specs.Views.{plain_of, plain_trees}
 use Rattle.hl_parser.proofs.Plain.{plain-Declarator}
 use Rattle.hl_rules.specs.Constants.{declarator_type}

@@ -1,4 +1,4 @@
-use Rattle.std.proofs.Common.{◌∙◌, sym, ap, is_none}
+use Rattle.std.proofs.Common.{◌∙◌}
 use Rattle.std.specs.Option.{option_copied}
 use Rattle.hl_values.specs.ScopeViews.{plain_sort_if, scope_of}
 use Rattle.hl_types.proofs.DeclaratorNotes.{missing-is, none-is, type_name-noted}

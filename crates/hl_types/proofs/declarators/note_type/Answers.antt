@@ -1,4 +1,4 @@
-use Rattle.std.proofs.Common.{◌∙◌, sym, ap, None, Some}
+use Rattle.std.proofs.Common.{◌∙◌, sym, ap}
 use Rattle.hl_parser.specs.Trees.{a_type}
 use Rattle.hl_parser.specs.Views.{plain_maybe, plain_of}
 use Rattle.hl_parser.proofs.Plain.{plain-Type}

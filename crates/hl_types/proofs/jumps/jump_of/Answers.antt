@@ -3,7 +3,7 @@ use Rattle.hl_parser.specs.declared.tree.Tree.{Tree}
 use Rattle.hl_parser.specs.Trees.{a_jump, present}
 use Rattle.hl_parser.specs.Views.{plain_maybe, plain_of}
 use Rattle.hl_rules.specs.Rules.{noted}
-use Rattle.hl_rules.specs.Sites.{jump_sites, statement_sites}
+use Rattle.hl_rules.specs.Sites.{statement_sites}
 use Rattle.hl_rules.specs.Source.{terminal_at}
 use Rattle.hl_rules.specs.Statements.{jump_code, one_stmt, return_code, statement_code}
 use Rattle.hl_values.specs.ScopeViews.{scope_of}

@@ -1,4 +1,3 @@
-use Rattle.hl_parser.specs.Trees.{a_jump, present}
 use Rattle.hl_parser.specs.Views.{plain_of}
 use Rattle.hl_rules.specs.Statements.{return_code}
 use Rattle.hl_values.specs.ScopeViews.{scope_of}

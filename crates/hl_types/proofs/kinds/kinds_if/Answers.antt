@@ -1,4 +1,4 @@
-use Rattle.std.proofs.Common.{◌≡◌, ◌∙◌, ◌==◌, Some, sym, ap, length}
+use Rattle.std.proofs.Common.{◌∙◌, sym}
 use Rattle.hl_meaning.specs.Views.{plain_ty}
 use Rattle.hl_rules.specs.Scopes.{type_words}
 use Rattle.hl_types.specs.Kinds.{type_kinds}

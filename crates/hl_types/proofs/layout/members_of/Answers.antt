@@ -1,4 +1,4 @@
-use Rattle.std.proofs.Common.{◌≡◌, subst, ap, ◌<◌, ◌≤◌, ◌++◌, map}
+use Rattle.std.proofs.Common.{subst, ap, ◌<◌, ◌≤◌, ◌++◌, map}
 use Rattle.hl_meaning.specs.Views.{plain_member as program_member}
 use Rattle.hl_rules.specs.Statements.{members_from}
 use Rattle.hl_values.specs.StructTables.{plain_member, plain_structs}

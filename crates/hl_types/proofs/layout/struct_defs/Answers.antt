@@ -1,4 +1,4 @@
-use Rattle.std.proofs.Common.{◌≡◌, ◌∙◌, sym, subst, ap, ◌<◌, ◌≤◌, ◌++◌, map}
+use Rattle.std.proofs.Common.{◌∙◌, sym, subst, ap, ◌<◌, ◌≤◌, ◌++◌, map}
 use Rattle.hl_meaning.specs.Views.{plain_struct as program_struct}
 use Rattle.hl_rules.specs.Statements as statements
 use Rattle.hl_values.specs.StructTables.{plain_structs}

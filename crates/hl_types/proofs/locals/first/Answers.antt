@@ -5,7 +5,6 @@ use Rattle.hl_parser.specs.Views.{plain_of, plain_trees}
 use Rattle.hl_parser.proofs.Plain.{plain-Local}
 use Rattle.hl_meaning.specs.Trees.{run_stmt}
 use Rattle.hl_rules.specs.Constants.{named_type}
-use Rattle.hl_rules.specs.Declarations.{after_starts}
 use Rattle.hl_rules.specs.Elaboration.{first_variables, starts_variables}
 use Rattle.hl_rules.specs.Expressions.{value_code}
 use Rattle.hl_rules.specs.Rules.{noted}

@@ -1,4 +1,4 @@
-use Rattle.std.proofs.Common.{◌∙◌, sym, ap, Some, option_and_then, option_map}
+use Rattle.std.proofs.Common.{◌∙◌, sym, ap, option_and_then}
 use Rattle.hl_parser.specs.Views.{plain_maybe, plain_of}
 use Rattle.hl_rules.specs.Rules.{noted}
 use Rattle.hl_rules.specs.Sites.{init_if, init_sites}

@@ -1,4 +1,4 @@
-use Rattle.std.proofs.Common.{◌≡◌, ◌∙◌, ap}
+use Rattle.std.proofs.Common.{◌∙◌, ap}
 use Rattle.hl_parser.specs.Trees.{at_of}
 use Rattle.hl_parser.specs.Views.{plain_of}
 use Rattle.hl_rules.specs.Rules.{noted}

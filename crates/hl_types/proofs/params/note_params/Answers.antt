@@ -1,4 +1,4 @@
-use Rattle.std.proofs.Common.{◌≡◌, ◌∙◌, refl, sym, ap, ◌+◌, ◌||◌, ◌++◌, drop, take, map}
+use Rattle.std.proofs.Common.{◌∙◌, refl, sym, ap, ◌+◌, ◌||◌, ◌++◌, drop, take, map}
 use Rattle.std.proofs.lemmas.List.{map-append}
 use Rattle.hl_parser.specs.Views.{plain_of, plain_trees}
 use Rattle.hl_rules.specs.Declarations.{after_params, params_info}

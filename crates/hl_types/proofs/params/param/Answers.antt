@@ -1,4 +1,4 @@
-use Rattle.std.proofs.Common.{◌≡◌, ◌∙◌, refl, sym, ap, ◌++◌, Option, List, append-nil}
+use Rattle.std.proofs.Common.{◌≡◌, ◌∙◌, sym, ap, ◌++◌, Option, List, append-nil}
 use Rattle.hl_parser.specs.Trees.{at_of}
 use Rattle.hl_parser.specs.Views.{plain_of}
 use Rattle.hl_meaning.specs.declared.program.Copying.{Copying}
@@ -8,7 +8,7 @@ use Rattle.hl_rules.specs.Rules.{noted}
 use Rattle.hl_rules.specs.Scopes.{ParamInfo}
 use Rattle.hl_rules.specs.Sites.{entry_sites, param_sites}
 use Rattle.hl_rules.proofs.Noting.{noted-append}
-use Rattle.hl_values.specs.ScopeChanges.{Held, held_of}
+use Rattle.hl_values.specs.ScopeChanges.{held_of}
 use Rattle.hl_values.specs.ScopeViews.{scope_of}
 use Rattle.hl_values.specs.Views.{plain_type_if}
 use Rattle.hl_types.proofs.ParamLemmas.{entry-noted, is_param, no_param, none-noted, param-after, param-held}

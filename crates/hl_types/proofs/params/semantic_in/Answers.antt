@@ -1,4 +1,4 @@
-use Rattle.std.proofs.Common.{◌≡◌, ◌∙◌, sym, ap}
+use Rattle.std.proofs.Common.{◌∙◌, sym, ap}
 use Rattle.hl_parser.specs.Views.{plain_of}
 use Rattle.hl_parser.proofs.Plain.{plain-Param}
 use Rattle.hl_values.specs.ScopeViews.{scope_of}

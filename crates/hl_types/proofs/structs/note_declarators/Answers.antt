@@ -1,4 +1,4 @@
-use Rattle.std.proofs.Common.{◌≡◌, ◌∙◌, refl, ap, ◌+◌, ◌++◌, drop, map}
+use Rattle.std.proofs.Common.{refl, ◌+◌, ◌++◌, drop, map}
 use Rattle.hl_parser.specs.Views.{plain_of, plain_trees}
 use Rattle.hl_rules.specs.Declarations.{declarators_info}
 use Rattle.hl_rules.specs.Rules.{noted}

@@ -1,5 +1,4 @@
-use Rattle.std.proofs.Common.{◌≡◌, ◌∙◌, ap}
-use Rattle.hl_parser.specs.Trees.{at_of}
+use Rattle.std.proofs.Common.{◌∙◌, ap}
 use Rattle.hl_parser.specs.Views.{plain_of}
 use Rattle.hl_rules.specs.Scopes.{spelled}
 use Rattle.hl_values.specs.ScopeViews.{scope_of}

@@ -1,4 +1,4 @@
-use Rattle.std.proofs.Common.{◌≡◌, ◌∙◌, sym, ap, ◌++◌, map, append-nil}
+use Rattle.std.proofs.Common.{◌∙◌, sym, ap, ◌++◌, map, append-nil}
 use Rattle.hl_parser.specs.Trees.{more_trees, no_trees}
 use Rattle.hl_parser.specs.Views.{plain_of, plain_trees}
 use Rattle.hl_parser.proofs.Plain.{plain-Member}

@@ -1,10 +1,8 @@
-use Rattle.std.proofs.Common.{◌≡◌, ◌∙◌, sym, ap, option_and_then, option_map, slice_get, map}
+use Rattle.std.proofs.Common.{◌∙◌, sym, ap, option_and_then, option_map, slice_get}
 use Rattle.hl_parser.specs.Views.{plain_trees}
-use Rattle.hl_rules.specs.Declarations.{members_info}
 use Rattle.hl_rules.specs.Scopes.{StructInfo}
 use Rattle.hl_values.specs.ScopeChanges.{with_struct_named}
 use Rattle.hl_values.specs.ScopeViews.{scope_of}
-use Rattle.hl_values.specs.StructTables.{plain_member}
 use Rattle.hl_values.specs.WordCounts.{counted}
 use Rattle.hl_types.proofs.DeclaredItems.{struct-noted, struct-words}
 use Rattle.hl_types.proofs.ScopeParts.{structs-in, structs-count}

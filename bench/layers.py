@@ -1,5 +1,6 @@
-"""Times the lexer, and the lexer with the parser behind it, on the sources of sources.py, and both with the typing rules
-behind them on those of programs.py."""
+"""Times the lexer, and the lexer with the parser behind it, on the sources of sources.py, and both
+with the typing rules behind them on those of programs.py.
+"""
 from dataclasses import dataclass
 import subprocess, sys
 
@@ -83,14 +84,14 @@ def doubled(program, layer, half, whole):
 
 
 def row(shape, layer, one, memory, ratio):
-    print(f'{shape:>15} {layer:>6} {one.size:>8} {one.tokens:>7} {1000 * one.took:>8.2f} {one.speed():>7.2f}'
+    print(f'{shape:>15} {layer:>9} {one.size:>8} {one.tokens:>7} {1000 * one.took:>8.2f} {one.speed():>7.2f}'
           f' {shown(one.per_byte(), "{:.0f}"):>10}'
           f' {shown(None if one.counted is None else one.counted / one.tokens, "{:.0f}"):>11}'
           f' {shown(memory, "{:.1f}"):>11} {shown(ratio, "{:.2f}"):>7}', flush=True)
 
 
 def head(last):
-    print(f'{"shape":>15} {"layer":>6} {"bytes":>8} {"tokens":>7} {"ms":>8} {"MB/s":>7} {"instr/byte":>10}'
+    print(f'{"shape":>15} {"layer":>9} {"bytes":>8} {"tokens":>7} {"ms":>8} {"MB/s":>7} {"instr/byte":>10}'
           f' {"instr/token":>11} {"memory/size":>11} {last:>7}')
 
 
@@ -140,7 +141,7 @@ def show_programs(program, folder, idle, judge):
             path = folder / f'wide-{halving}.hlsl'
             path.write_bytes(source)
             both.append(timed(program, 'elaborate', path, source, 3))
-        ratio = doubled(program, 'elaborate', *both) if both[1].size > 1.9 * both[0].size else None
+        ratio = doubled(program, 'elaborate', *both)
         judge.wants(f'elaborate, {shape}, over half the size', ratio, DOUBLED)
         row(shape, 'elaborate', both[1], memory_ratio([program, 'elaborate'], both[1].path, idle), ratio)
 

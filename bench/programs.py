@@ -204,14 +204,21 @@ def kernels(most_bytes, most_tokens):
 
 
 ENTRY = b'[numthreads(1,1,1)] void main() {'
+LIMIT = 262144      # the greatest number of tokens
 
 
-def numbered(before, part, after, most):
-    """A shape that has a part, with a number of its own, as often as both limits hold, but at most so often."""
+def times(most, most_tokens):
+    """How often a text has what a program has at most so often: a smaller text less, so that it can be half as long."""
+    return most * most_tokens // LIMIT
+
+
+def numbered(before, part, after, most=LIMIT):
+    """A shape that has a part, with a number n of its own and the number p before it, as often as both limits hold,
+    but at most so often."""
     def make(most_bytes, most_tokens):
         parts, size, count = [], len(before + after), tokens_of(before + after)
-        for number in range(most):
-            one = part % {b'n': number}
+        for number in range(times(most, most_tokens)):
+            one = part % {b'n': number + 1, b'p': number}
             size, count = size + len(one), count + tokens_of(one)
             if size > most_bytes or count > most_tokens:
                 break
@@ -220,17 +227,43 @@ def numbered(before, part, after, most):
     return make
 
 
-# one list that is as long as both limits allow, or as a rule does
+def listed(before, part, after, most):
+    """A shape that has a list of a part, as long as is said before the list in the place of %d, and at most so long."""
+    def make(most_bytes, most_tokens):
+        count = times(most, most_tokens)
+        text = before % count + b','.join([part] * count) + after
+        assert len(text) <= most_bytes and tokens_of(text) <= most_tokens
+        return text
+    return make
+
+
+def sized(most):
+    """A program of exactly so many words of variables, nodes and statements: 6 for each assignment, 3 before them."""
+    def make(_most_bytes, most_tokens):
+        assigned, left = divmod(times(most, most_tokens) - 3, 6)
+        return ENTRY + b'uint x=0;' + assigned * b'x=x+1;' + left * b';' + b'}'
+    return make
+
+
+# each has one thing as often as the limits on bytes and tokens allow, or as a rule or the limit on sizes does
 WIDE = {
-    'functions': numbered(b'', b'uint f%(n)d(uint a) { return a + %(n)d; }', ENTRY + b'}', 1 << 20),
-    'overloads': numbered(b'', b'void f(uint a[%(n)d+1]) { }', ENTRY + b'}', 1000),
-    'names': numbered(ENTRY, b'uint a%(n)d=%(n)d;', b'}', 1 << 20),
+    'functions': numbered(b'', b'uint f%(n)d(uint a) { return a + %(n)d; }', ENTRY + b'}'),
+    'calls': numbered(b'uint f0(uint a) { return a; }', b'uint f%(n)d(int a) { return f%(p)d(a) + f%(p)d(%(n)d); }',
+                      ENTRY + b'}'),
+    'overloads': numbered(b'', b'void f(uint a[%(n)d]) { }', ENTRY + b'}', 1000),
+    'names': numbered(ENTRY, b'uint a%(n)d=%(n)d;', b'}'),
+    'members': numbered(b'struct S { int a0;', b'int a%(n)d;', b'};' + ENTRY + b'S s; s.a0 = 1; }', 65535),
     'uses': repeated(ENTRY + b'uint x=0;', b'x=x+1;', b'}'),
-    'initialisers': repeated(b'static const int a[32768] = {0', b',1', b'};' + ENTRY + b'}', times=32767),
-    'arguments': repeated(b'groupshared uint g;' + ENTRY, b'g=max(g,g);', b'}'),
-    'members': numbered(b'struct S {', b'int a%(n)d;', b'};' + ENTRY + b'S s; s.a0 = 1; }', 65535),
-    'statements': repeated(ENTRY, b'{;}', b'}'),
-    '64 operands': repeated(ENTRY + b'uint x=0;', b'x=1' + 58 * b'+1' + b';', b'}'),
+    'conversions': repeated(ENTRY + b'bool b; int i; uint u; uint3 v;', b'v=b+i*u;', b'}'),
+    'places': repeated(b'struct C { uint3 p; uint n[4]; }; groupshared C c[8];' + ENTRY + b'int x;',
+                       b'c[x].n[x&3]+=c[x].p.y;', b'}'),
+    'intrinsics': repeated(b'groupshared uint g;' + ENTRY, b'g=max(g,g);', b'}'),
+    'numbers': listed(b'static const int a[%d] = {', b'1', b'};' + ENTRY + b'}', 65536),
+    'initialisers': listed(b'struct S { int a; uint2 b; };' + ENTRY + b'uint x; S s[%d] = {', b'{1,{x,true}}', b'}; }',
+                           21845),
+    'blocks': repeated(ENTRY, b'{;}', b'}'),
+    '64 operands': repeated(ENTRY + b'uint x=0;', b'x=1' + 61 * b'+1' + b';', b'}'),
+    'greatest size': sized(16384),
 }
 SHAPES = {'kernels': kernels} | WIDE
 

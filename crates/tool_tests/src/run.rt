@@ -232,3 +232,13 @@ fn a_kernel_without_the_entry_breaks_a_rule(rt: HostRuntime) -> Result<(), Fail>
     assert_refused(&rt, &run, Status::Refused, b"1:35: rule 13\n");
     Ok(())
 }
+
+#[test]
+fn the_entry_may_have_another_name(rt: HostRuntime) -> Result<(), Fail> {
+    let text = Bytes::from_slice(rt.alloc(), b"[numthreads(1,1,1)] void CSMain() {}")?;
+    let words = ["compile", "--entry", "CSMain"];
+    let run = run_tool(&rt, &words, &mut PlainSource::new(text), &[])?;
+    assert_eq!(rt; run.status, Status::Done);
+    assert_eq!(rt; run.notes.written().len(), 0);
+    Ok(())
+}

@@ -1,8 +1,9 @@
 //! A source that breaks each typing rule, and the source mended.
 
-use crate::run::{assert_refused, compile_run};
+use crate::run::{Run, assert_refused, compile_run};
 use base_core::Bytes;
 use dxil_driver::Status;
+use std::process::Abort;
 use std::test::Fail;
 
 /// A source, the line that it is refused with, and the source mended.
@@ -269,6 +270,13 @@ const ROWS: [Row; 42] = [
     },
 ];
 
+/// Asserts that a source had a program, whether it is built by now or not.
+fn assert_accepted(rt: &impl Abort, run: &Run) {
+    if run.status != Status::Done {
+        assert_refused(rt, run, Status::Refused, b"error: not built\n");
+    }
+}
+
 #[test]
 fn each_rule_is_named_at_its_place(rt: HostRuntime) -> Result<(), Fail> {
     for row in ROWS {
@@ -282,15 +290,13 @@ fn each_rule_is_named_at_its_place(rt: HostRuntime) -> Result<(), Fail> {
 fn a_mended_source_breaks_no_rule(rt: HostRuntime) -> Result<(), Fail> {
     for row in ROWS {
         let run = compile_run(&rt, Bytes::from_slice(rt.alloc(), row.mended)?)?;
-        if run.status != Status::Done {
-            assert_refused(&rt, &run, Status::Refused, b"error: not built\n");
-        }
+        assert_accepted(&rt, &run);
     }
     Ok(())
 }
 
 /// Sources with the line that each is refused with.
-const REFUSED: [(&[u8], &[u8]); 7] = [
+const REFUSED: [(&[u8], &[u8]); 10] = [
     // the first of the rules that are broken, and of several at one token the least
     (b"groupshared int g; groupshared int g;", b"1:36: rule 1\n"),
     (
@@ -306,6 +312,16 @@ const REFUSED: [(&[u8], &[u8]); 7] = [
         b"void f(int a, uint b) {}\nvoid f(uint a, int b) {}\n[numthreads(1,1,1)]\nvoid main() { f(1, 1); }",
         b"4:15: rule 36\n",
     ),
+    // a number up to 2147483647 is an int, and one above it a uint
+    (
+        b"void f(int a, uint b) {}\nvoid f(uint a, int b) {}\n[numthreads(1,1,1)]\nvoid main() { f(2147483647, 2147483647); }",
+        b"4:15: rule 36\n",
+    ),
+    (
+        b"void f(int a, uint b) {}\nvoid f(uint a, int b) {}\n[numthreads(1,1,1)]\nvoid main() { f(2147483648, 4294967295); }",
+        b"4:15: rule 36\n",
+    ),
+    (b"4294967296", b"1:1: number too large\n"),
     // no entry
     (b"[numthreads(1,1,1)] void CSMain() {}", b"1:37: rule 13\n"),
 ];
@@ -315,6 +331,26 @@ fn the_first_broken_rule_is_named(rt: HostRuntime) -> Result<(), Fail> {
     for (text, line) in REFUSED {
         let run = compile_run(&rt, Bytes::from_slice(rt.alloc(), text)?)?;
         assert_refused(&rt, &run, Status::Refused, line);
+    }
+    Ok(())
+}
+
+/// Sources that break no rule.
+const ACCEPTED: [&[u8]; 5] = [
+    // the threads of a group
+    b"[numthreads(1024,1,1)] void main() {}",
+    b"[numthreads(32,32,1)] void main() {}",
+    b"[numthreads(1,1,64)] void main() {}",
+    // a number up to 2147483647 is an int, and one above it a uint
+    b"void f(int a, uint b) {}\nvoid f(uint a, int b) {}\n[numthreads(1,1,1)]\nvoid main() { f(2147483647, 2147483648); }",
+    b"void f(int a, uint b) {}\nvoid f(uint a, int b) {}\n[numthreads(1,1,1)]\nvoid main() { f(4294967295, 7); }",
+];
+
+#[test]
+fn sources_that_break_no_rule_are_accepted(rt: HostRuntime) -> Result<(), Fail> {
+    for text in ACCEPTED {
+        let run = compile_run(&rt, Bytes::from_slice(rt.alloc(), text)?)?;
+        assert_accepted(&rt, &run);
     }
     Ok(())
 }

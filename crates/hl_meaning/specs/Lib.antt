@@ -6,6 +6,7 @@ pub mod Trees
 pub mod Programs
 pub mod Views
 pub mod Layout
+pub mod Slots
 pub mod Places
 pub mod WellFormed
 pub mod Stopping

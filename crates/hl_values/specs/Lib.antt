@@ -5,6 +5,7 @@ pub mod Basics
 pub mod Calls
 pub mod Few
 pub mod GlobalNames
+pub mod Innermost
 pub mod Intrinsics
 pub mod Known
 pub mod Methods

@@ -15,11 +15,10 @@ ghost use Rattle.hl_values.specs.ScopeViews.{plain_function, plain_param, scope_
 ghost use Rattle.hl_values.specs.Views.{plain_code, plain_code_if, plain_type_if, plain_value};
 
 use crate::intrinsic_calls::argument_types;
-use crate::methods::copied_if;
 use crate::name_table::NameTable;
 use crate::nodes::{converted_code, value_node};
 use crate::scope::{FunctionInfo, ParamInfo, Scope};
-use crate::typed::{Code, Typed};
+use crate::typed::{Code, Typed, copied_if};
 use base_core::{NoMemory, Sequence};
 use hl_meaning::{Arg, Args, Copying, Form, HlType};
 use hl_overload::{Candidate, ChoiceFault, Param, Params, choose};

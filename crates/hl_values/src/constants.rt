@@ -11,6 +11,7 @@ ghost use Rattle.hl_values.specs.ScopeViews.{plain_sort, plain_sort_if, scope_of
 ghost use Rattle.hl_values.specs.Views.{plain_type_if};
 
 use crate::scope::{Scope, Sort};
+use crate::typed::copied_if;
 use base_core::NoMemory;
 use hl_lexer::Terminal;
 use hl_meaning::{HlType, Kind};
@@ -105,16 +106,6 @@ fn struct_of_sort(sort: Option<&Sort>) -> Option<HlType>
     ensures { plain_type_if result ≡ constants.struct_of_sort (plain_sort_if (option_copied sort.entry)) }
 {
     struct_of(sort?)
-}
-
-/// A copy of a type that may not be known.
-pub(crate) fn copied_if(alloc: Global, ty: &Option<HlType>) -> Result<Option<HlType>, NoMemory>
-    ensures { IfOk result (λ copy. plain_type_if copy ≡ plain_type_if ty.now) }
-{
-    match ty {
-        Some(ty) => Ok(Some(ty.copied(alloc)?)),
-        None => Ok(None),
-    }
 }
 
 /// A number from 1 to the greatest length of an array.
@@ -348,7 +339,7 @@ impl<'a> Scope<'a> {
                 if lengths.len() > 16 {
                     return Ok(None);
                 }
-                let element = copied_if(alloc, ty)?;
+                let element = copied_if(ty, alloc)?;
                 self.array_of(alloc, lengths.as_slice(), element)
             }
             _ => Ok(None),

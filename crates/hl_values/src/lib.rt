@@ -42,7 +42,7 @@ pub use methods::{
 };
 pub use name_table::NameTable;
 pub use nodes::{converted, converted_code, converted_each, in_kind, location, node, value_node};
-pub use noting::{note_operand, note_side, note_use};
+pub use noting::{note_conversion, note_operand, note_side, note_use};
 pub use operators::{
     Operator, choice_type, common_of, common_type, is_basic, is_no_operand, is_numeric,
     negated_type, operand_of, signed_type, valued,
@@ -55,7 +55,7 @@ pub use scope::{
 pub use standing::letters_within;
 pub use steps::{is_longer, letter_at, merged_letters, one_letter, with_part};
 pub use structs::{MemberTable, StructInfo, Structs};
-pub use typed::{Code, Standing, Typed};
+pub use typed::{Code, Standing, Typed, copied_if};
 pub use whole::{
     whole_assignment, whole_binary, whole_choice, whole_step, whole_unary, whole_word,
 };

@@ -20,7 +20,7 @@ use crate::intrinsics::atomic_named;
 use crate::nodes::{converted_code, location, value_node};
 use crate::operators::valued;
 use crate::scope::BufferInfo;
-use crate::typed::{Code, Typed};
+use crate::typed::{Code, Typed, copied_if};
 use base_core::NoMemory;
 use hl_meaning::{Expr, Form, HlType, Kind, Location, Root, Target};
 use hl_overload::cost;
@@ -184,19 +184,6 @@ fn method_gives(
         Method::StoresWords(_) => Ok(Some(HlType::Void)),
         Method::DoesAtomic(_) => Ok(Some(HlType::Void)),
         Method::LoadsElement => copied_if(&buffer.element, alloc),
-    }
-}
-
-/// A copy of a type, where there is one.
-///
-/// # Errors
-/// `NoMemory` where memory is refused.
-pub(crate) fn copied_if(ty: &Option<HlType>, alloc: Global) -> Result<Option<HlType>, NoMemory>
-    ensures { IfOk result (λ copy. plain_type_if copy ≡ plain_type_if ty.now) }
-{
-    match ty {
-        Some(ty) => Ok(Some(ty.copied(alloc)?)),
-        None => Ok(None),
     }
 }
 

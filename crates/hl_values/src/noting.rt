@@ -74,7 +74,7 @@ fn is_no_conversion(from: &Option<HlType>, to: &Option<HlType>) -> bool
     }
 }
 
-/// Notes a value that doesn't convert to the type of what it is assigned to.
+/// Notes a value that doesn't convert to the type of what it becomes.
 pub fn note_conversion(
     from: &Option<HlType>,
     to: &Option<HlType>,

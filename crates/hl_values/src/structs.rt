@@ -5,6 +5,8 @@ ghost use Rattle.std.specs.Option.{option_copied};
 ghost use Rattle.base_core.specs.Limits.{most_parts};
 ghost use Rattle.hl_meaning.specs.Views.{plain_ty};
 ghost use Rattle.hl_rules.specs.Scopes as scopes;
+ghost use Rattle.hl_values.specs.Innermost as innermost;
+ghost use Rattle.hl_values.specs.Innermost.{innermosts};
 ghost use Rattle.hl_values.specs.StructTables.{plain_member, plain_structs};
 ghost use Rattle.hl_values.specs.Views.{plain_type_if};
 ghost use Rattle.hl_values.specs.WordCounts.{counted};
@@ -19,12 +21,13 @@ use std::marker::Model;
 /// The members of a struct: their names, each with its type where it has one.
 pub type MemberTable<'a> = NameTable<'a, Option<HlType>>;
 
-/// A struct: its name, its members, and its words where all of them have types.
+/// A struct: its name, its members, its words where all of them have types, and the number of its innermost struct.
 #[derive(Drop)]
 pub struct StructInfo<'a> {
     name: &'a [u8],
     members: MemberTable<'a>,
     words: Option<WordCount>,
+    innermost: usize,
 }
 
 /// The structs that are declared so far, each by its number.
@@ -44,11 +47,50 @@ impl<'a> Model for Structs<'a> {
 
     ghost coded = { coded_list (coded× (coded_list coded_ℕ) (coded_list (coded× (coded_list coded_ℕ) (coded_option held_type.the_row.coded)))) };
 
-    ghost use Rattle.hl_values.specs.StructEntries.{AreCounted, members_of};
+    ghost use Rattle.hl_values.specs.StructEntries.{AreHeld, members_of};
 
     ghost view = { λ s. map members_of s.list };
 
-    ghost invariant = { λ s. AreCounted s.list };
+    ghost invariant = { λ s. AreHeld s.list };
+}
+
+/// The struct that a type is, alone or in arrays of one element.
+fn lone_struct(ty: &HlType) -> Option<u32>
+    ensures { result ≡ innermost.lone_struct (plain_ty ty.now) }
+{
+    match ty {
+        HlType::Void => None,
+        HlType::Scalar(_) => None,
+        HlType::Vector(_, _) => None,
+        HlType::Array(element, length) => {
+            if *length == 1 {
+                lone_struct(element.get())
+            } else {
+                None
+            }
+        }
+        HlType::Struct(number) => Some(*number),
+    }
+}
+
+/// Such a struct of a type that may not be known.
+fn lone_struct_if(ty: &Option<HlType>) -> Option<u32>
+    ensures { result ≡ innermost.lone_struct_if (plain_type_if ty.now) }
+{
+    match ty {
+        Some(ty) => lone_struct(ty),
+        None => None,
+    }
+}
+
+/// Such a struct of the only member of a struct.
+fn lone_member(members: &MemberTable) -> Option<u32>
+    ensures { result ≡ innermost.lone_member members.now }
+{
+    if members.len() != 1 {
+        return None;
+    }
+    lone_struct_if(members.value_at(0)?)
 }
 
 impl<'a> Structs<'a> {
@@ -91,6 +133,15 @@ impl<'a> Structs<'a> {
     {
         let info = self.list.get(number)?;
         info.words
+    }
+
+    /// The innermost struct of a struct, by its number: it has the same words, one for one. A struct whose only member is
+    /// a struct, alone or in arrays of one element, has the innermost struct of that one, and another is its own.
+    pub fn innermost(&self, number: usize) -> Option<usize>
+        ensures { result ≡ slice_get (innermosts self.now) number }
+    {
+        let info = self.list.get(number)?;
+        Some(info.innermost)
     }
 
     /// The words of a type, where all that it is made of has types.
@@ -149,6 +200,19 @@ impl<'a> Structs<'a> {
         words
     }
 
+    /// The innermost struct of a next struct of these members.
+    fn innermost_of(&self, members: &MemberTable<'a>) -> usize
+        ensures { result ≡ innermost.innermost_in (innermosts self.now) members.now }
+    {
+        match lone_member(members) {
+            Some(number) => match self.innermost(number as usize) {
+                Some(innermost) => innermost,
+                None => self.list.len(),
+            },
+            None => self.list.len(),
+        }
+    }
+
     /// Adds a struct of these members at the end.
     ///
     /// # Errors
@@ -158,10 +222,12 @@ impl<'a> Structs<'a> {
         ensures err { OnErr result (self.new ≡ self.old) }
     {
         let words = self.members_words(&members);
+        let innermost = self.innermost_of(&members);
         self.list.push(StructInfo {
             name,
             members,
             words,
+            innermost,
         })?;
         Ok(())
     }

@@ -1,8 +1,25 @@
 //! What is known of an expression, and what it becomes.
 
-use base_core::Bytes;
+ghost use Rattle.std.specs.Prelude.{◌≡◌, IfOk};
+ghost use Rattle.hl_values.specs.Views.{plain_type_if};
+
+use base_core::{Bytes, NoMemory};
 use hl_meaning::{Expr, HlType, Location};
 use sqlite_items::Boxed;
+use std::alloc::Global;
+
+/// A copy of a type, where there is one.
+///
+/// # Errors
+/// `NoMemory` where memory is refused.
+pub fn copied_if(ty: &Option<HlType>, alloc: Global) -> Result<Option<HlType>, NoMemory>
+    ensures { IfOk result (λ copy. plain_type_if copy ≡ plain_type_if ty.now) }
+{
+    match ty {
+        Some(ty) => Ok(Some(ty.copied(alloc)?)),
+        None => Ok(None),
+    }
+}
 
 /// Whether an expression is a place. A place is known by its root: whether what it holds may be written, and whether it
 /// is groupshared or in a writable structured buffer. A swizzle at its end has letters, the numbers of components.

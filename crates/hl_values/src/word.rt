@@ -17,12 +17,11 @@ ghost use Rattle.hl_values.specs.ScopeViews.{plain_sort, plain_sort_if, plain_va
 ghost use Rattle.hl_values.specs.ScopeViews as views;
 ghost use Rattle.hl_values.specs.Views.{plain_code_if, plain_type_if};
 
-use crate::constants::copied_if;
 use crate::forms::literal;
 use crate::nodes::location;
 use crate::parts::value;
 use crate::scope::{Scope, Sort, VariableInfo, VariableRoot};
-use crate::typed::{Code, Standing, Typed};
+use crate::typed::{Code, Standing, Typed, copied_if};
 use base_core::{Bytes, NoMemory};
 use hl_lexer::Terminal;
 use hl_meaning::{HlType, Kind, Root};
@@ -110,7 +109,7 @@ fn variable(variable: &VariableInfo, at: usize, alloc: Global) -> Result<Typed, 
     ensures { IfOk result (λ t. plain_known t ≡ known (sort_value (Some (a_variable_name (plain_variable variable.now)))) variable.now.number (variable_code at (Some (a_variable_name (plain_variable variable.now))))) }
 {
     let code = variable_code(variable, at, alloc)?;
-    let ty = copied_if(alloc, &variable.ty)?;
+    let ty = copied_if(&variable.ty, alloc)?;
     Ok(Typed {
         ty,
         standing: Standing::Place {

@@ -87,7 +87,8 @@ pub enum Form {
         yes: Boxed<Expr>,
         no: Boxed<Expr>,
     },
-    /// A scalar or vector of the components of its parts.
+    /// A scalar or vector of the components of its parts, or an array or a struct of its words, which an initialiser in
+    /// braces gives.
     Build(Exprs),
     /// A part of a value that isn't a place.
     Pick {

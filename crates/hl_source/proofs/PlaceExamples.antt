@@ -2,13 +2,13 @@
 use Rattle.std.specs.Prelude.{ℕ, List, [], ◌∷◌, false, Some, None, refl}
 use Rattle.lane_core.specs.declared.event.AtomicKind.TheVariants.{Add}
 use Rattle.lane_core.specs.declared.event.Cell.{Cell}
-use Rattle.lane_core.specs.declared.event.Event.TheVariants.{BufferAtomic, BufferCompareExchange, BufferLoad, BufferStore, SharedAtomic, SharedStore}
+use Rattle.lane_core.specs.declared.event.Event.TheVariants.{BufferAtomic, BufferCompareExchange, BufferLoad, BufferStore, SharedAtomic, SharedLoad, SharedStore}
 use Rattle.lane_core.specs.declared.event.Asked.TheVariants.{Ended, Fault}
 use Rattle.lane_core.specs.declared.event.LaneFault.TheVariants.{OutOfBounds}
 use Rattle.lane_core.specs.declared.event.Slot.{Slot}
-use Rattle.hl_meaning.specs.declared.program.Copying.TheVariants.{CopyOut}
+use Rattle.hl_meaning.specs.declared.program.Copying.TheVariants.{CopyBoth, CopyIn, CopyOut}
 use Rattle.hl_meaning.specs.Types.{Ty, array_type, bool_type, struct_type, uint_type, void_type}
-use Rattle.hl_meaning.specs.Trees.{Expr, PathParts, Stmt, a_location, atomic_form, bytes_target, call_form, convert_form, element_root, index_part, local_stmt, member_part, more_args, more_parts, no_args, no_expr, no_location, no_parts, pick_form, place_arg, place_target, run_stmt, shared_root, some_expr, some_location, swizzle_part, variable_root}
+use Rattle.hl_meaning.specs.Trees.{Expr, PathParts, Stmt, a_location, atomic_form, bytes_target, call_form, convert_form, element_root, index_part, local_stmt, member_part, more_args, more_parts, no_args, no_expr, no_location, no_parts, pick_form, place_arg, place_target, run_stmt, shared_root, some_expr, some_location, swizzle_part, value_arg, variable_root}
 use Rattle.hl_meaning.specs.Programs.{Member, Program, Resource, StructDef}
 use Rattle.hl_meaning.specs.Layout.{kinds_of, words_of}
 use Rattle.hl_source.specs.SourceLane.{source_lane}
@@ -143,6 +143,29 @@ gives_nothing_out =
 starts_as_zeros : RunsTo gives_nothing_out 0 (0 ∷ []) (stored 0 0 ∷ []) Ended
 unfolding source_lane words_of kinds_of
 starts_as_zeros = refl
+
+-- struct S { uint a[2]; bool b; };  groupshared S s;
+-- void f(inout S p, uint i) { p.a[i] = 7; }  f(s, dst.Load(0));
+-- The index 2 leads to the bool, whose word 7 is written back as 1.
+abbrev flagged : StructDef
+flagged = record {
+  name = [];
+  members = member (array_type uint_type 2) 0 ∷ member bool_type 2 ∷ [];
+  words = 3;
+}
+
+abbrev writes_past_an_array : Program
+writes_past_an_array =
+    program_with (flagged ∷ []) [] (struct_type 0 ∷ []) (
+    function void_type (record { variable = 0; copying = CopyBoth; semantic = None } ∷ record { variable = 1; copying = CopyIn; semantic = None } ∷ []) (struct_type 0 ∷ uint_type ∷ []) (
+    set_place uint_type (variable_root 0) (more_parts (member_part 0) (more_parts (index_part (variable_read uint_type 1)) no_parts)) (uint_word 7) ∷ []) ∷
+    function void_type [] [] (
+    run_stmt (expr void_type (call_form 0 (more_args (place_arg (a_location (struct_type 0) (shared_root 0) no_parts)) (more_args (value_arg (load 0)) no_args)))) ∷ []) ∷ []) 1
+
+writes_a_bool_back : RunsTo writes_past_an_array 0 (5 ∷ 6 ∷ 0 ∷ 2 ∷ 0 ∷ 0 ∷ 0 ∷ [])
+    (SharedLoad (cell 0 0) ∷ SharedLoad (cell 0 1) ∷ SharedLoad (cell 0 2) ∷ loaded 0 ∷ SharedStore (cell 0 0) 5 ∷ SharedStore (cell 0 1) 6 ∷ SharedStore (cell 0 2) 1 ∷ []) Ended
+unfolding source_lane words_of kinds_of
+writes_a_bool_back = refl
 
 -- dst.Store(0, uint3(4, 5, 6).zx.y) as one pick: (uint3(4, 5, 6)).x, and (uint3(4, 5, 6))[2]
 abbrev picks : Program

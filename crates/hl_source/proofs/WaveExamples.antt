@@ -87,7 +87,7 @@ unfolding source_lane words_of kinds_of
 knows_its_place = refl
 
 -- uint i = 0;
--- do { i++; if (i == 2) continue; if (i == 4) break; uint y; dst.Store(i, y); y = 7; } while (i < 9);
+-- do { i++; if (i == 2) continue; if (i == 4) break; uint y; dst.Store(8, y); y = 7; } while (i < 9);
 -- dst.Store(0, i);
 abbrev is_equal : ℕ → Expr
 is_equal word = expr bool_type (binary_form 26 (variable_read uint_type 0) (uint_word word))

@@ -1,5 +1,5 @@
--- What an expression does (HLSL, "Expressions"; that operands are evaluated from left to right, all of them, is this
--- project's own).
+-- What an expression does (HLSL, "Expressions", "Operators"). That operands are evaluated from left to right is this
+-- project's own. `&&`, `||` and `?:` evaluate all their operands and work by component, as in HLSL before 2021.
 --
 -- An expression evaluates its operands in order, and then acts on their words. The first table alone says which operands
 -- a form has and in which order, and the second alone says what is done with them.
@@ -12,7 +12,8 @@ use Rattle.hl_meaning.specs.declared.program.Copying.TheVariants.{CopyOut}
 use Rattle.hl_meaning.specs.declared.program.Parameter.{Parameter}
 use Rattle.hl_meaning.specs.Types.{Ty}
 use Rattle.hl_meaning.specs.Trees.{Arg, Args, Expr, Exprs, Form, Location, MaybeExpr, MaybeLocation, PathPart, PathParts, Root, Target, a_location, an_expr, atomic_form, binary_form, build_form, bytes_target, call_form, choose_form, convert_form, element_root, index_part, intrinsic_form, literal_form, method_form, more_args, more_exprs, more_parts, no_expr, no_exprs, no_location, no_parts, pick_form, place_arg, place_target, place_type, read_form, some_expr, some_location, type_of, unary_form, value_arg, write_form}
-use Rattle.hl_source.specs.Operations.{binary_words, chosen_word, component_kind, converted, map_3, unary_word}
+use Rattle.hl_meaning.specs.Layout.{kinds_of}
+use Rattle.hl_source.specs.Operations.{binary_words, chosen_word, component_kind, converted, map_2, map_3, unary_word, word_as}
 use Rattle.hl_source.specs.State.{Callee, Context, Progress, State, after, alone, first_then, gives, goes_with, joined, no_value}
 use Rattle.hl_source.specs.Offsets.{picked_words, place_of, slot_of}
 use Rattle.hl_source.specs.Memory.{atomic_address, atomic_word, load_four, read_place, store_four, write_place, zeros_of}
@@ -20,7 +21,7 @@ use Rattle.hl_source.specs.Intrinsics.{work_of, worked}
 
 -- calls (HLSL, "Expressions"; the order in which values are copied is this project's own)
 
--- the parameters of the function of a number
+-- the parameters of the function of a number; no well-formed program calls one that isn't there
 abbrev pub parameters_of : Context → (function : ℕ) → List Parameter
 parameters_of c function = option_map_or (λ f. f.parameters) (slice_get c.scope.functions function) []
 
@@ -34,15 +35,20 @@ starts_with c _ place indexes s = read_place c place indexes s
 abbrev pub argument : (indexes start : List ℕ) → List (List ℕ)
 argument indexes start = indexes ∷ start ∷ []
 
--- what the parameters start with, of the operands of a call
+-- what the parameters start with, of the operands of a call, two for each argument
 abbrev pub starts : List (List ℕ) → List (List ℕ)
 starts (indexes ∷ start ∷ operands) = start ∷ starts operands
 starts _ = []
 
--- Behind the body the values of `out` and `inout` parameters are written back, in order of the parameters.
+-- the value of something of a type with these words, which are read as values of their kinds
+abbrev pub value_of_words : Context → Ty → List ℕ → List ℕ
+value_of_words c ty words = map_2 word_as (kinds_of c.scope.structs ty) words
+
+-- Behind the body the values of `out` and `inout` parameters are read and written back, in order of the parameters.
+-- That ends with the arguments: in a well-formed program each has its two operands and a variable.
 abbrev pub copies_out : Context → Args → (operands parameters : List (List ℕ)) → State → Progress (List ℕ)
 copies_out c (more_args (place_arg place) rest) (indexes ∷ start ∷ operands) (words ∷ parameters) s =
-    after (write_place c place indexes words s) (λ _ s'. copies_out c rest operands parameters s')
+    after (write_place c place indexes (value_of_words c (place_type place) words) s) (λ _ s'. copies_out c rest operands parameters s')
 copies_out c (more_args (value_arg value) rest) (indexes ∷ start ∷ operands) (words ∷ parameters) s =
     copies_out c rest operands parameters s
 copies_out c _ _ _ s = goes_with [] s
@@ -53,7 +59,7 @@ calls c callee args operands s =
     after (callee (starts operands) s.exchange) (λ result ended.
     after (copies_out c args operands ended.variables (record s { exchange = ended.exchange })) (λ _ s'. goes_with result s'))
 
--- a function that isn't there does nothing
+-- a function that isn't there does nothing; no well-formed program calls one
 abbrev pub no_callee : Callee
 no_callee parameters exchange = goes_with [] (record { variables = parameters; exchange = exchange })
 
@@ -127,7 +133,7 @@ acts c ty (method_form resource count address (some_expr value)) (at ∷ words �
 acts c ty (atomic_form target kind compare value original) (at ∷ compared ∷ words ∷ place ∷ []) s =
     after (atomic_original c target kind at (slice_index compared 0) (slice_index words 0) s)
     (λ before s'. no_value (write_if c original place (before ∷ []) s'))
--- no form of a well-formed program has other operands
+-- no well-formed program reaches this: its forms have no other operands
 acts c ty _ _ s = goes_with [] s
 
 abbrev mutual
@@ -196,7 +202,7 @@ abbrev mutual
   indexes_if c no_location s = goes_with [] s
   indexes_if c (some_location place) s = indexes c place s
 
-  -- the arguments of a call in order, two operands each
+  -- the arguments of a call in order, two operands each; a well-formed program has one for each parameter
   pub arguments : Context → Args → List Parameter → State → Progress (List (List ℕ))
   arguments c (more_args first rest) (p ∷ parameters) s =
       joined (argument_of c first p.copying s) (λ s'. arguments c rest parameters s')

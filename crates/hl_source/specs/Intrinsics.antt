@@ -31,7 +31,7 @@ clamped kind word low high = lesser kind (greater kind word low) high
 
 -- what an intrinsic function does
 pub data Work : Type 0 where
-  -- it computes each component of its result from those of one, two or three arguments, by their kind
+  -- it computes each component of its result from those of one, two or three arguments, by the kind of the result
   from_one : (Kind → ℕ → ℕ) → Work
   from_two : (Kind → ℕ → ℕ → ℕ) → Work
   from_three : (Kind → ℕ → ℕ → ℕ → ℕ) → Work
@@ -39,9 +39,10 @@ pub data Work : Type 0 where
   from_all : (List ℕ → Bool) → Work
   -- it tells something of the lane, without an event
   of_lane : (Lane → ℕ) → Work
-  -- it is a barrier of a mode
+  -- a barrier of a mode: 1 for a sync of the group, 2 for the memory of buffers, 8 for groupshared memory, added up
+  -- (DXIL.rst, "Barrier")
   barrier : (mode : ℕ) → Work
-  -- it is a wave operation, of a kind that hangs on that of its argument, with one event for each component
+  -- it is a wave operation, of a kind that hangs on that of its result, with one event for each component
   wave : (Kind → WaveKind) → Work
   -- the same, with the lane that is read as its second argument
   wave_at : WaveKind → Work
@@ -82,6 +83,7 @@ works =
     -- WaveActiveCountBits, WavePrefixCountBits: sums of 0 or 1
     wave (λ kind. Sum) ∷ wave (λ kind. PrefixSum) ∷ []
 
+-- the work of the function of a number; no well-formed program has another number
 abbrev pub work_of : (number : ℕ) → Work
 work_of number = unwrap_or (slice_get works number) own_form
 
@@ -107,4 +109,5 @@ worked c (wave_at kind) ty (xs ∷ lane ∷ []) s = wave_words kind (slice_index
 worked c (wave_alone kind) ty [] s = wave_words kind 0 (component_kind ty) (0 ∷ []) s
 worked c (wave_four kind) ty (xs ∷ []) s =
     after (asks (Wave kind (slice_index xs 0) 0) s) (λ reply s'. goes_with (reply_words 4 reply) s')
+-- no well-formed program reaches this: its functions have no other arguments, and an atomic operation has its own form
 worked c _ ty _ s = goes_with [] s

@@ -1,4 +1,5 @@
--- How places are read and written, and which events that makes. Events of places are this project's own.
+-- How places are read and written, and which events that makes. Events of places, and that an access past the whole
+-- variable is a fault, are this project's own.
 use Rattle.std.specs.Prelude.{ℕ, ◌*◌, ◌++◌, nat_lt, if◌then◌else◌, List, [], ◌∷◌, map, length, take, drop, replicate, slice_get, slice_set, unwrap_or, ok_or, zip, Option, Some, None}
 use Rattle.std.specs.Option.{option_map_or}
 use Rattle.std.specs.Int.{div_ceil}
@@ -18,7 +19,7 @@ use Rattle.hl_source.specs.Operations.{map_2, picked, word_as}
 use Rattle.hl_source.specs.State.{Context, Progress, State, after, asks, asks_word, each, faults, gives, goes_with, no_value, reply_words, variable_words, with_variable}
 use Rattle.hl_source.specs.Offsets.{Holder, Reached, in_constant, in_element, in_shared, in_variable, place_of}
 
--- the words of a constant, and how many a groupshared variable has
+-- the words of a constant, and how many a groupshared variable has; no well-formed program names one that isn't there
 
 abbrev pub constant_words : Context → (number : ℕ) → List ℕ
 constant_words c number = option_map_or (λ k. k.words) (slice_get c.scope.constants number) []
@@ -91,7 +92,7 @@ write_variable_word number offset word s =
     within offset (length (variable_words s number)) (λ s'. goes_with [] (with_variable number (slice_set (variable_words s' number) offset word) s')) s
 
 -- Writing a word of a groupshared variable is one event; writing one of another variable makes none. Nothing is written
--- to a constant.
+-- to a constant: no well-formed program does it.
 abbrev pub write_words : Context → Holder → (offset : ℕ) → List ℕ → State → Progress (List ℕ)
 write_words c (in_variable number) offset words s =
     no_value (each (λ w. write_variable_word number w.0 w.1) (zip (word_offsets offset (length words)) words) s)
@@ -136,7 +137,8 @@ abbrev pub buffer_atomic : Slot → (index byte_offset : ℕ) → Option AtomicK
 buffer_atomic slot index at (Some kind) compare word = BufferAtomic slot index at kind word
 buffer_atomic slot index at None compare word = BufferCompareExchange slot index at compare word
 
--- An atomic operation works on groupshared variables and elements of buffers.
+-- An atomic operation works on groupshared variables and elements of buffers. No well-formed program has another
+-- target.
 abbrev pub atomic_word : Context → Holder → (offset : ℕ) → Option AtomicKind → (compare word : ℕ) → State → Progress ℕ
 atomic_word c (in_shared number) offset kind compare word s =
     within offset (shared_size c number) (asks_word (shared_atomic (cell number offset) kind compare word)) s

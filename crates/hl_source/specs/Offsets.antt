@@ -12,7 +12,8 @@ use Rattle.hl_source.specs.Operations.{component_kind, picked}
 use Rattle.hl_source.specs.State.{Context}
 
 -- Where steps lead: the type of what stands there, the word that it begins at, and, behind a swizzle of more than one
--- letter, its letters. Such a swizzle stands last, and the type and the word are those of the vector.
+-- letter, its letters. Such a swizzle stands last, and the type and the word are those of the vector or the scalar
+-- before it.
 pub record Reached : Type 0 where
   pub ty : Ty
   pub offset : ℕ
@@ -26,7 +27,7 @@ start_of ty = record { ty = ty; offset = 0; letters = [] }
 abbrev pub further : Reached → (ty : Ty) → (words : ℕ) → Reached
 further from ty words = record { ty = ty; offset = wrapping_add from.offset words; letters = [] }
 
--- the member of a number of a struct
+-- the member of a number of a struct; no well-formed program names one that isn't there
 abbrev pub member_of : List StructDef → Ty → (number : ℕ) → Option Member
 member_of structs (struct_type struct) number = option_and_then (λ d. slice_get d.members number) (slice_get structs struct)
 member_of structs _ number = None
@@ -36,7 +37,7 @@ abbrev pub element_of : Ty → Ty
 element_of (array_type element length) = element
 element_of ty = scalar_type (component_kind ty)
 
--- a member stands at its offset in its struct
+-- a member stands at its offset in its struct; no well-formed program steps to none
 abbrev pub at_member : Reached → Option Member → Reached
 at_member from None = from
 at_member from (Some m) = further from m.ty m.offset
@@ -46,7 +47,7 @@ abbrev pub at_index : List StructDef → Reached → (index : ℕ) → Reached
 at_index structs from index =
     further from (element_of from.ty) (wrapping_mul index (words_of structs (element_of from.ty)))
 
--- A swizzle of one letter leads to the component of the letter; a longer one stays at its vector.
+-- A swizzle of one letter leads to the component of the letter; a longer one stays where it stands.
 abbrev pub at_swizzle : Reached → (letters : List ℕ) → Reached
 at_swizzle from (letter ∷ []) = further from (scalar_type (component_kind from.ty)) letter
 at_swizzle from letters = record from { letters = letters }
@@ -73,7 +74,7 @@ pub record Place : Type 0 where
   pub holder : Holder
   pub at : Reached
 
--- the slot of a buffer
+-- the slot of a buffer; no well-formed program names one that isn't there
 abbrev pub slot_of : Context → (resource : ℕ) → Slot
 slot_of c resource = slice_index_or c.slots resource (record { class = 0; space = 0; register = 0 })
 
@@ -88,6 +89,7 @@ abbrev pub indexes_of_steps : Root → (indexes : List ℕ) → List ℕ
 indexes_of_steps (element_root resource index) indexes = drop 1 indexes
 indexes_of_steps _ indexes = indexes
 
+-- the type of a root; no well-formed program has a root without one
 abbrev pub type_of_root : Context → Root → Ty
 type_of_root c root = unwrap_or (root_type c.scope root) void_type
 
@@ -98,7 +100,7 @@ place_of c (a_location ty root parts) indexes = record {
   at = reached c.scope.structs (start_of (type_of_root c root)) parts (indexes_of_steps root indexes);
 }
 
--- the word of a literal
+-- the word of a literal; no well-formed program picks by an index that is none
 abbrev pub literal_word : Expr → ℕ
 literal_word (an_expr ty at (literal_form word)) = word
 literal_word _ = 0

@@ -8,7 +8,7 @@ use Rattle.hl_meaning.specs.declared.ty.Kind.TheVariants.{Bool as BoolKind, Int 
 use Rattle.hl_meaning.specs.Types.{Ty, component_count, is_scalar, scalar_type, vector_type}
 use Rattle.hl_source.specs.Words.{complement, holds, shift_left, signed_less, signed_quotient, signed_remainder, signed_shift_right, truth, unsigned_less, unsigned_quotient, unsigned_remainder, unsigned_shift_right, wrapping_add, wrapping_mul, wrapping_sub}
 
--- components of several lists in order
+-- components of several lists in order; those of a well-formed program have one length
 
 abbrev pub map_2 : {A B C : Type 0} → (A → B → C) → List A → List B → List C
 map_2 f (x ∷ xs) (y ∷ ys) = f x y ∷ map_2 f xs ys
@@ -30,7 +30,7 @@ all_ok (first ∷ rest) = with_first first (all_ok rest)
 
 -- conversions (HLSL, "Standard Conversions")
 
--- the kind of the components of a scalar or a vector
+-- the kind of the components of a scalar or a vector; no well-formed program asks for that of another type
 abbrev pub component_kind : Ty → Kind
 component_kind (scalar_type kind) = kind
 component_kind (vector_type kind size) = kind
@@ -51,7 +51,7 @@ resized from to words =
 abbrev pub converted : (from to : Ty) → List ℕ → List ℕ
 converted from to words = map (word_as (component_kind to)) (resized from to words)
 
--- operators (HLSL, "Expressions")
+-- operators (HLSL, "Operators"); `&&`, `||` and `?:` work by component, as in HLSL before 2021
 
 -- for int the signed reading, and else the unsigned one
 abbrev pub by_sign : {A : Type 0} → A → A → Kind → A
@@ -91,7 +91,7 @@ binary_operators =
     operator 24 (λ kind a b. Ok (truth (holds a && holds b))) ∷
     operator 25 (λ kind a b. Ok (truth (holds a || holds b))) ∷ []
 
--- what the operator of a mark computes
+-- what the operator of a mark computes; no well-formed program has another mark
 abbrev pub binary_word : (op : ℕ) → Kind → ℕ → ℕ → Result ℕ LaneFault
 binary_word op =
     option_map_or (λ o. o.compute) (find (λ o. o.mark == op) binary_operators) (λ kind a b. Ok 0)
@@ -99,7 +99,7 @@ binary_word op =
 abbrev pub binary_words : (op : ℕ) → Kind → List ℕ → List ℕ → Result (List ℕ) LaneFault
 binary_words op kind left right = all_ok (map_2 (binary_word op kind) left right)
 
--- `-`, `~` and `!`; `+` leaves its operand as it is
+-- `-`, `~` and `!`; `+` leaves its operand as it is, and no well-formed program has another mark
 abbrev pub unary_word : (op : ℕ) → ℕ → ℕ
 unary_word op word =
     if op == 13 then wrapping_sub 0 word else (

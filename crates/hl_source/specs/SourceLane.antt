@@ -18,7 +18,8 @@ use Rattle.hl_source.specs.Statements.{Leaving, by_return, does_all}
 
 -- functions
 
--- the value that a body is left with
+-- The value that a body is left with, which has no words where it comes to its end. No well-formed body is left by
+-- `break` or `continue`.
 abbrev pub value_of : Leaving → List ℕ
 value_of (by_return value) = value
 value_of _ = []
@@ -72,7 +73,7 @@ dispatch_thread threads group thread = record {
 abbrev pub flat_index : (threads thread : Coordinates) → ℕ
 flat_index threads thread = thread.x + (thread.y * threads.x + thread.z * threads.x * threads.y)
 
--- SV_DispatchThreadID, SV_GroupID, SV_GroupThreadID and SV_GroupIndex
+-- SV_DispatchThreadID, SV_GroupID, SV_GroupThreadID and SV_GroupIndex; each parameter of a well-formed entry has one
 abbrev pub semantic_components : (threads : Coordinates) → Lane → Option Semantic → List ℕ
 semantic_components threads lane (Some DispatchThreadId) = components (dispatch_thread threads lane.group lane.thread)
 semantic_components threads lane (Some GroupId) = components lane.group
@@ -80,12 +81,14 @@ semantic_components threads lane (Some GroupThreadId) = components lane.thread
 semantic_components threads lane (Some GroupIndex) = flat_index threads lane.thread ∷ []
 semantic_components threads lane None = []
 
--- a parameter with fewer components has the first ones; int and uint have the same bits
+-- A parameter with fewer components has the first ones; int and uint have the same bits. In a well-formed program each
+-- parameter has a variable.
 abbrev pub input_words : Program → Lane → List Variable → Parameter → List ℕ
 input_words p lane variables parameter =
     take (component_count (unwrap_or (variable_type variables parameter.variable) void_type))
     (map wrapped (semantic_components (grid_of p.threads) lane parameter.semantic))
 
+-- the inputs of the entry, which is there in a well-formed program
 abbrev pub inputs : Program → Lane → Option FunctionDef → List (List ℕ)
 inputs p lane None = []
 inputs p lane (Some f) = map (input_words p lane f.variables) f.parameters
@@ -97,7 +100,7 @@ abbrev pub ended : Progress (List ℕ) → Run
 ended (goes_with value s) = standing s.exchange Ended
 ended (ends_at run) = run
 
--- the entry, as it is called
+-- the entry, as it is called; it is there in a well-formed program
 abbrev pub entry_of : Program → Lane → (n : ℕ) → Callee
 entry_of p lane n = unwrap_or (slice_get (callees_after p lane n [] p.functions) p.entry) no_callee
 

@@ -64,7 +64,7 @@ gives (Err fault) s = faults fault s
 abbrev pub asks : Event → State → Progress Reply
 asks event s = ask ends_at event s.exchange (λ reply exchange. goes_with reply (record s { exchange = exchange }))
 
--- a word of a reply, which has four words of 32 bits (so no more of a number counts)
+-- the low 32 bits of a word of a reply, and 0 where the reply has none
 abbrev pub reply_word : Reply → ℕ → ℕ
 reply_word reply place = wrapped (slice_index reply.words place)
 
@@ -76,7 +76,7 @@ reply_words count reply = map (reply_word reply) (range_with_len 0 count)
 abbrev pub asks_word : Event → State → Progress ℕ
 asks_word event s = after (asks event s) (λ reply s'. goes_with (reply_word reply 0) s')
 
--- the words of a variable
+-- the words of a variable; no well-formed program names one that isn't there
 abbrev pub variable_words : State → (number : ℕ) → List ℕ
 variable_words s number = unwrap_or (slice_get s.variables number) []
 

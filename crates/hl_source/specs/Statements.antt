@@ -68,7 +68,7 @@ abbrev pub returns : Context → Option Expr → Doing
 returns c None s = goes_with (by_return []) s
 returns c (Some value) s = after (evaluates c value s) (λ words s'. goes_with (by_return words) s')
 
--- A loop of at most so many turns. With no turns left the run goes on past its bound, before the turn's test.
+-- A loop of at most so many turns. With no turns left the run goes on past its bound, before a turn begins.
 abbrev pub turns : ℕ → (turn : Doing) → Doing
 turns zero turn s = out_of_turns s
 turns (suc n) turn s = after (turn s) (then_loop (turns n turn))

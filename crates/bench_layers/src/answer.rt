@@ -2,11 +2,13 @@
 
 ghost use Rattle.std.specs.Prelude.{◌≤◌, ℕ, List, length};
 ghost use Rattle.hl_lexer.specs.Tokens.{IsTokenList, lexemes_of};
+ghost use Rattle.hl_parser.specs.Views.{plain_of};
+ghost use Rattle.hl_types.specs.Elaborating.{AreSpelling};
 
 use crate::layer::Layer;
 use base_core::NoMemory;
 use hl_lexer::{LexFault, Tokens, lex};
-use hl_parser::{ParseFault, parse};
+use hl_parser::{ParseFault, Tree, parse};
 use hl_types::{RuleFault, elaborate};
 use std::alloc::Global;
 use std::fmt;
@@ -76,12 +78,19 @@ fn elaborated(alloc: Global, tokens: &Tokens) -> Result<Answer, NoMemory>
     requires { (text : List ℕ) × IsTokenList text (lexemes_of tokens.now) tokens.now.end }
 {
     match parse(alloc, tokens) {
-        Ok(tree) => match elaborate(alloc, &tree, tokens, ENTRY) {
-            Ok(_program) => Ok(Answer::Program),
-            Err(RuleFault::Memory) => Err(NoMemory),
-            Err(fault) => Ok(Answer::NoProgram(fault)),
-        },
+        Ok(tree) => judged(alloc, &tree, tokens),
         Err(ParseFault::Memory) => Err(NoMemory),
         Err(fault) => Ok(Answer::NoTree(fault)),
+    }
+}
+
+/// What the typing rules answer for a tree of the tokens of a text.
+fn judged(alloc: Global, tree: &Tree, tokens: &Tokens) -> Result<Answer, NoMemory>
+    requires { AreSpelling (lexemes_of tokens.now) tokens.now.end (plain_of tree.now) }
+{
+    match elaborate(alloc, tree, tokens, ENTRY) {
+        Ok(_program) => Ok(Answer::Program),
+        Err(RuleFault::Memory) => Err(NoMemory),
+        Err(fault) => Ok(Answer::NoProgram(fault)),
     }
 }

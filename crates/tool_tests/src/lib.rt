@@ -8,8 +8,6 @@ mod containers;
 #[cfg(test)]
 mod run;
 #[cfg(test)]
-mod sums;
-#[cfg(test)]
 mod typing;
 #[cfg(test)]
 mod verdicts;

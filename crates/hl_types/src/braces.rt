@@ -16,7 +16,7 @@ ghost use Rattle.hl_rules.specs.Sites.{init_sites, leaf_sites, leaves_sites};
 ghost use Rattle.hl_rules.specs.Statements.{init_code};
 ghost use Rattle.hl_types.specs.Kinds.{type_kinds};
 ghost use Rattle.hl_types.specs.Leaves as spec;
-ghost use Rattle.hl_types.specs.Leaves.{is_other_leaf, is_other_type, leaf_in, leaves_in};
+ghost use Rattle.hl_types.specs.Leaves.{is_other_leaf, leaf_in, leaves_in};
 ghost use Rattle.hl_types.specs.Walks.{made_expr};
 ghost use Rattle.hl_values.specs.ScopeViews.{scope_of};
 ghost use Rattle.hl_values.specs.StructTables.{plain_structs};
@@ -24,11 +24,12 @@ ghost use Rattle.hl_values.specs.Views.{plain_code_if, plain_type_if};
 
 use crate::expressions::used;
 use crate::kinds::{is_other, kinds_if};
+use crate::types::is_no_scalar;
 use base_core::NoMemory;
 use hl_meaning::{Expr, Exprs, Form, HlType, Kind};
 use hl_parser::{Tree, Trees};
 use hl_rules::{Broken, note_if};
-use hl_values::{Code, Scope, Structs, Typed, converted_code, is_scalar, node, valued};
+use hl_values::{Code, Scope, Structs, Typed, converted_code, node};
 use sqlite_items::{Boxed, Items};
 use std::alloc::Global;
 
@@ -39,23 +40,13 @@ struct Leaves {
     has_other: bool,
 }
 
-/// Whether a type is known, and is one of a value other than a scalar.
-fn is_other_type(ty: &Option<HlType>) -> bool
-    ensures { result ≡ is_other_type (plain_type_if ty.now) }
-{
-    match valued(ty) {
-        Some(ty) => !is_scalar(ty),
-        None => false,
-    }
-}
-
 impl Leaves {
     /// Adds an expression.
     fn push(&mut self, typed: Typed) -> Result<(), NoMemory>
         ensures codes { OnOk result (map plain_code_if self.new.codes.items ≡ map plain_code_if self.old.codes.items ++ plain_code_if typed.code ∷ []) }
         ensures other { OnOk result (self.new.has_other ≡ (self.old.has_other || spec.is_other_type (plain_type_if typed.ty))) }
     {
-        self.has_other = self.has_other || is_other_type(&typed.ty);
+        self.has_other = self.has_other || is_no_scalar(&typed.ty);
         self.codes.push(typed.code)?;
         Ok(())
     }

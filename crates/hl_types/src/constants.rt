@@ -17,13 +17,12 @@ ghost use Rattle.hl_values.specs.Views.{plain_type_if};
 use crate::constant_words::{constant_value, constant_words, note_constant_init};
 use crate::declarators::{declarator, note_type};
 use crate::inits::init;
-use crate::params::copied_if;
 use crate::shared::{note_global, variable_of};
 use base_core::{NoMemory, Sequence};
 use hl_meaning::{Constant, Constants, HlType};
 use hl_parser::Tree;
 use hl_rules::Broken;
-use hl_values::Scope;
+use hl_values::{Scope, copied_if};
 use std::alloc::Global;
 
 /// The declarator of a constant, with its type.
@@ -82,7 +81,7 @@ pub(crate) fn constant<'a>(
     let at = name.at();
     let variable = variable_of(scope, at, &own, alloc)?;
     made.push(Constant { variable, words })?;
-    let known = copied_if(alloc, &own)?;
+    let known = copied_if(&own, alloc)?;
     // The scope holds no words: it knows of a constant what its name says, and how many there are.
     scope.declare_constant(alloc, at, known, number, Sequence::new(alloc))?;
     note_initialiser(scope, &own, tree, found, alloc)?;

@@ -162,7 +162,7 @@ fn dotted_value(
 }
 
 /// A copy of a type, where there is one.
-pub(crate) fn copied(ty: Option<&HlType>, alloc: Global) -> Result<Option<HlType>, NoMemory>
+fn copied(ty: Option<&HlType>, alloc: Global) -> Result<Option<HlType>, NoMemory>
     ensures { IfOk result (λ copy. plain_type_if copy ≡ plain_type_if (option_copied ty.entry)) }
 {
     match ty {

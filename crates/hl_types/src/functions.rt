@@ -14,14 +14,14 @@ ghost use Rattle.hl_values.specs.ScopeViews.{scope_of};
 ghost use Rattle.hl_values.specs.Views.{plain_type_if};
 
 use crate::function_attributes::{note_function_attributes, note_result};
-use crate::params::{copied_if, note_params, parameters_of};
+use crate::params::{note_params, parameters_of};
 use crate::statements::statements;
 use crate::whole::{is_entry, note_whole};
 use base_core::{NoMemory, Text};
 use hl_meaning::{FunctionDef, HlType, Parameters, Stmts, Variables};
 use hl_parser::Tree;
 use hl_rules::Broken;
-use hl_values::Scope;
+use hl_values::{Scope, copied_if};
 use std::alloc::Global;
 
 /// The body of a function: the statements of its block.
@@ -108,8 +108,8 @@ pub(crate) fn function<'a>(
     let entry = is_entry(scope, name);
     let parameters = parameters_of(scope, params, alloc)?;
     let ty = scope.result_type(gives);
-    let inner = copied_if(alloc, &ty)?;
-    let known = copied_if(alloc, &ty)?;
+    let inner = copied_if(&ty, alloc)?;
+    let known = copied_if(&ty, alloc)?;
     let number = next_function(scope)?;
     scope.open_function(alloc, inner)?;
     let infos = note_params(scope, entry, params, found, alloc)?;

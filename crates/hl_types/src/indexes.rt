@@ -1,8 +1,8 @@
 //! Indexes: behind values, and behind the names of buffers, where they are elements (HLSL, "Subscript").
 
-ghost use Rattle.std.specs.Prelude.{◌≡◌, ◌&&◌, IfOk, None, OnOk, Option, Some, false, is_some, not, option_and_then, option_map, true};
+ghost use Rattle.std.specs.Prelude.{◌≡◌, ◌&&◌, IfOk, None, OnOk, Option, Some, false, is_some, option_and_then, option_map, true};
 ghost use Rattle.std.specs.Option.{is_none, option_copied};
-ghost use Rattle.hl_meaning.specs.Types.{Ty, is_scalar};
+ghost use Rattle.hl_meaning.specs.Types.{Ty};
 ghost use Rattle.hl_meaning.specs.Views.{plain_expr, plain_ty};
 ghost use Rattle.hl_parser.specs.Trees.{a_postfix, at_of, present};
 ghost use Rattle.hl_parser.specs.Views.{plain_of};
@@ -15,7 +15,7 @@ ghost use Rattle.hl_rules.specs.Scopes as scopes;
 ghost use Rattle.hl_rules.specs.Sites.{expression_sites};
 ghost use Rattle.hl_rules.specs.Source.{terminal_at};
 ghost use Rattle.hl_rules.specs.Values as values;
-ghost use Rattle.hl_rules.specs.Values.{buffer_at, buffer_named, buffer_sort, buffer_word, is_known, value_of};
+ghost use Rattle.hl_rules.specs.Values.{buffer_at, buffer_named, buffer_sort, buffer_word, value_of};
 ghost use Rattle.hl_types.specs.Postfix.{element_count};
 ghost use Rattle.hl_values.specs.Known.{bracketed_known, known, plain_known};
 ghost use Rattle.hl_values.specs.Noted.{noted_index, noted_use};
@@ -24,15 +24,16 @@ ghost use Rattle.hl_values.specs.Steps.{element_of};
 ghost use Rattle.hl_values.specs.TypedViews.{IsTyped};
 ghost use Rattle.hl_values.specs.Views.{plain_code, plain_code_if, plain_standing, plain_type_if, plain_value};
 
-use crate::dots::{copied, stepped};
+use crate::dots::stepped;
+use crate::types::is_no_scalar;
 use base_core::{Bytes, NoMemory};
 use hl_lexer::Terminal;
 use hl_meaning::{Expr, HlType};
 use hl_parser::Tree;
 use hl_rules::{Broken, note_if};
 use hl_values::{
-    BufferInfo, Code, Scope, Sort, Standing, Typed, element_in, element_type, index_expr,
-    indexed_code, is_scalar, note_use, valued,
+    BufferInfo, Code, Scope, Sort, Standing, Typed, copied_if, element_in, element_type,
+    index_expr, indexed_code, note_use, valued,
 };
 use sqlite_items::Boxed;
 use std::alloc::Global;
@@ -196,16 +197,6 @@ fn is_not_indexed(ty: Option<&HlType>) -> bool
     }
 }
 
-/// Whether a type is known that is no scalar.
-fn is_no_scalar(ty: Option<&HlType>) -> bool
-    ensures { result ≡ is_known (λ t. not (is_scalar t)) (plain_type_if (option_copied ty.entry)) }
-{
-    match ty {
-        Some(ty) => !is_scalar(ty),
-        None => false,
-    }
-}
-
 /// Whether a constant number is at or past the end of an array or a vector.
 fn is_past(number: Option<u32>, ty: Option<&HlType>) -> bool
     ensures { result ≡ is_past number (plain_type_if (option_copied ty.entry)) }
@@ -234,7 +225,7 @@ fn note_index(value: &Typed, index: &Typed, at: usize, found: &mut Option<Broken
     ensures { found.new ≡ noted_index found.old None (plain_value value.now) (plain_value index.now) index.now.number at }
 {
     note_if(found, is_not_indexed(valued(&value.ty)), at, 28);
-    note_if(found, is_no_scalar(valued(&index.ty)), at, 29);
+    note_if(found, is_no_scalar(&index.ty), at, 29);
     note_if(found, is_past(index.number, valued(&value.ty)), at, 30);
     note_if(found, needs_number(value, index), at, 31);
 }
@@ -244,7 +235,7 @@ fn note_element(buffer: &BufferInfo, index: &Typed, at: usize, found: &mut Optio
     ensures { found.new ≡ noted_index found.old (Some (plain_buffer buffer.now)) (values.value None values.unclear) (plain_value index.now) index.now.number at }
 {
     note_if(found, buffer.raw, at, 28);
-    note_if(found, is_no_scalar(valued(&index.ty)), at, 29);
+    note_if(found, is_no_scalar(&index.ty), at, 29);
 }
 
 // ---- indexes behind values
@@ -378,7 +369,7 @@ fn element_value(buffer: &BufferInfo, code: Option<Code>, alloc: Global) -> Resu
     if buffer.raw {
         return Ok(stepped(None, Standing::NoPlace, code, alloc));
     }
-    let ty = copied(buffer.element.as_ref(), alloc)?;
+    let ty = copied_if(&buffer.element, alloc)?;
     Ok(Typed {
         ty,
         standing: Standing::Place {

@@ -16,12 +16,11 @@ ghost use Rattle.hl_values.specs.Views.{plain_type_if};
 use crate::braces::brace_init;
 use crate::conditions::converted_to;
 use crate::expressions::used;
-use crate::types::note_conversion;
 use base_core::NoMemory;
 use hl_meaning::{Expr, HlType};
 use hl_parser::Tree;
 use hl_rules::Broken;
-use hl_values::Scope;
+use hl_values::{Scope, note_conversion};
 use std::alloc::Global;
 
 /// An initialiser without braces, of a type.

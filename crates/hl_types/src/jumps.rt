@@ -15,13 +15,13 @@ ghost use Rattle.hl_values.specs.ScopeViews.{scope_of};
 use crate::conditions::converted_to;
 use crate::expressions::used;
 use crate::made::one;
-use crate::types::{is_void_result, note_conversion};
+use crate::types::is_void_result;
 use base_core::NoMemory;
 use hl_lexer::Terminal;
 use hl_meaning::{Expr, Stmt, Stmts};
 use hl_parser::Tree;
 use hl_rules::{Broken, note_if};
-use hl_values::Scope;
+use hl_values::{Scope, note_conversion};
 use sqlite_items::Boxed;
 use std::alloc::Global;
 

@@ -22,18 +22,8 @@ use base_core::{NoMemory, Sequence};
 use hl_meaning::{Copying, HlType, Parameter, Parameters, Semantic};
 use hl_parser::Tree;
 use hl_rules::{Broken, note_if};
-use hl_values::{ParamInfo, Scope};
+use hl_values::{ParamInfo, Scope, copied_if};
 use std::alloc::Global;
-
-/// A copy of a type that may not be known.
-pub(crate) fn copied_if(alloc: Global, ty: &Option<HlType>) -> Result<Option<HlType>, NoMemory>
-    ensures { IfOk result (λ copy. plain_type_if copy ≡ plain_type_if ty.now) }
-{
-    match ty {
-        Some(ty) => Ok(Some(ty.copied(alloc)?)),
-        None => Ok(None),
-    }
-}
 
 /// How the argument of a parameter is passed.
 fn copying_in(scope: &Scope, tree: &Tree) -> Copying
@@ -120,7 +110,7 @@ fn param<'a>(
             let at = declarator.get().at();
             let own = note_param_type(scope, ty.get(), declarator.get(), found, alloc)?;
             note_entry_param(found, entry, before, &own, copying, semantic, at);
-            let known = copied_if(alloc, &own)?;
+            let known = copied_if(&own, alloc)?;
             scope.declare_variable(alloc, at, own, constant.is_some())?;
             Ok(ParamInfo { ty: known, copying })
         }

@@ -15,6 +15,6 @@ returns c =
     let writable = c.args.buffer.now.writable in
     let code = plain_code_if c.args.code in
     let ty = c.in_ok-ty.ensures in
-    ap (λ t. known (value t (a_place writable writable c.new.result)) None code) (ty ∙ ap plain_type_if c.as_ref.ensures.value) ∙
+    ap (λ t. known (value t (a_place writable writable c.new.result)) None code) ty ∙
     (ap (λ l. known (value (plain_type_if c.args.buffer.now.element) (a_place writable writable l)) None code) c.new.ensures ∙
     sym (ap (λ b. known (if b then plain_value None else value (plain_type_if c.args.buffer.now.element) (a_place writable writable [])) None code) c.if-buffer.false))

@@ -1,7 +1,7 @@
 -- The words of types and their kinds, by the members of the structs that are held.
 use Rattle.std.proofs.Common.{◌≡◌, ◌∙◌, refl, sym, ap, ℕ, zero, suc, ◌+◌, ◌*◌, ◌-◌, ◌^◌, ◌<◌, ◌≤◌, ◌==◌, Bool, true, false, if◌then◌else◌, nat_lt, not, List, [], ◌∷◌, ◌++◌, Option, None, Some, append_assoc, append-nil, drop, get_or, length, map, option_and_then, option_map, slice_get, suc-add, take, unwrap_or, arith}
 use Rattle.std.proofs.lemmas.Bool.{eqb-false, eqb-true, ltb-false}
-use Rattle.std.proofs.lemmas.List.{drop_all, length-take-le, length_push, map-append, nil_from_length, take_all, take_more}
+use Rattle.std.proofs.lemmas.List.{length-take-le, length_push, map-append, nil_from_length, take_all, take_more}
 use Rattle.std.proofs.lemmas.List.Sums.{sum_by-cons}
 use Rattle.std.proofs.lemmas.Option.{slice_get-get_or, slice_get_past}
 use Rattle.std.proofs.Math.Seq.{take-add}
@@ -14,7 +14,7 @@ use Rattle.hl_rules.specs.DeclarationRules.{is_other}
 use Rattle.hl_rules.specs.Scopes.{MemberInfo, StructInfo, members_words, type_words, words_if}
 use Rattle.hl_rules.specs.Statements.{members_from, struct_def, struct_defs}
 use Rattle.hl_rules.proofs.LayoutForms.{get-next, length-kinds_of}
-use Rattle.hl_types.specs.Kinds.{has_count, kinds_behind, kinds_front, kinds_if, member_types, members_at, struct_kinds, type_kinds, types_kinds}
+use Rattle.hl_types.specs.Kinds.{each_behind, each_front, has_count, kinds_behind, kinds_front, kinds_if, member_types, members_at, one_at, struct_kinds, type_kinds, types_kinds}
 use Rattle.hl_values.specs.declared.words.WordCount.{WordCount}
 use Rattle.hl_values.specs.declared.words.WordCount.TheVariants.{Few, Many}
 use Rattle.hl_values.specs.StructTables.{Member, Members, plain_member, plain_struct, plain_structs, structs_behind}
@@ -66,58 +66,58 @@ abbrev words_behind : List ℕ → List Members → List ℕ
 words_behind before [] = before
 words_behind before (d ∷ structs) = words_behind (before ++ types_words before (member_types d.1) ∷ []) structs
 
-kinds_behind-append : (before : List (List Kind)) (xs ys : List Members) → kinds_behind before (xs ++ ys) ≡ kinds_behind (kinds_behind before xs) ys
-kinds_behind-append before [] ys = refl
-kinds_behind-append before (d ∷ xs) ys = kinds_behind-append (before ++ types_kinds before (member_types d.1) ∷ []) xs ys
+each_behind-append : {A : Type 0} (has : List A → List Ty → A) (before : List A) (xs ys : List Members) → each_behind has before (xs ++ ys) ≡ each_behind has (each_behind has before xs) ys
+each_behind-append has before [] ys = refl
+each_behind-append has before (d ∷ xs) ys = each_behind-append has (before ++ has before (member_types d.1) ∷ []) xs ys
 
 members-read : (structs : List Members) (n : ℕ) → n < length structs → (get_or structs n no_struct).1 ≡ members_at structs n
 members-read structs n h = sym (ap (λ o. unwrap_or (option_map (λ d. d.1) o) []) (slice_get-get_or structs n no_struct h))
 
-kinds_front-next : (structs : List Members) (n : ℕ) → n < length structs
-    → kinds_front structs (n + 1) ≡ kinds_front structs n ++ struct_kinds structs n ∷ []
-kinds_front-next structs n h =
-    ap (kinds_behind []) (take_more structs n no_struct h) ∙ (kinds_behind-append [] (take n structs) (get_or structs n no_struct ∷ []) ∙
-    ap (λ members. kinds_front structs n ++ types_kinds (kinds_front structs n) (member_types members) ∷ []) (members-read structs n h))
+pub each_front-next : {A : Type 0} (has : List A → List Ty → A) (structs : List Members) (n : ℕ) → n < length structs
+    → each_front has structs (n + 1) ≡ each_front has structs n ++ one_at has structs n ∷ []
+each_front-next has structs n h =
+    ap (each_behind has []) (take_more structs n no_struct h) ∙ (each_behind-append has [] (take n structs) (get_or structs n no_struct ∷ []) ∙
+    ap (λ members. each_front has structs n ++ has (each_front has structs n) (member_types members) ∷ []) (members-read structs n h))
 
--- ---- the kinds of a struct among those of others
+-- ---- what a struct has among what others have
 
-length-kinds_behind : (before : List (List Kind)) (structs : List Members) → length (kinds_behind before structs) ≡ length before + length structs
-length-kinds_behind before [] = omega arith
-length-kinds_behind before (d ∷ structs) =
-    length-kinds_behind (before ++ types_kinds before (member_types d.1) ∷ []) structs ∙
-    omega (arith, length_push before (types_kinds before (member_types d.1)))
+pub length-each_behind : {A : Type 0} (has : List A → List Ty → A) (before : List A) (structs : List Members) → length (each_behind has before structs) ≡ length before + length structs
+length-each_behind has before [] = omega arith
+length-each_behind has before (d ∷ structs) =
+    length-each_behind has (before ++ has before (member_types d.1) ∷ []) structs ∙
+    omega (arith, length_push before (has before (member_types d.1)))
 
-length-kinds_front : (structs : List Members) (n : ℕ) → n ≤ length structs → length (kinds_front structs n) ≡ n
-length-kinds_front structs n h = length-kinds_behind [] (take n structs) ∙ omega (arith, length-take-le n structs h)
+pub length-each_front : {A : Type 0} (has : List A → List Ty → A) (structs : List Members) (n : ℕ) → n ≤ length structs → length (each_front has structs n) ≡ n
+length-each_front has structs n h = length-each_behind has [] (take n structs) ∙ omega (arith, length-take-le n structs h)
 
-kinds_behind-grows : (before : List (List Kind)) (structs : List Members) → (more : List (List Kind)) × (kinds_behind before structs ≡ before ++ more)
-kinds_behind-grows before [] = ([], sym (append-nil before))
-kinds_behind-grows before (d ∷ structs) =
-    let own = types_kinds before (member_types d.1) in
-    let r = kinds_behind-grows (before ++ own ∷ []) structs in
+each_behind-grows : {A : Type 0} (has : List A → List Ty → A) (before : List A) (structs : List Members) → (more : List A) × (each_behind has before structs ≡ before ++ more)
+each_behind-grows has before [] = ([], sym (append-nil before))
+each_behind-grows has before (d ∷ structs) =
+    let own = has before (member_types d.1) in
+    let r = each_behind-grows has (before ++ own ∷ []) structs in
     (own ∷ r.0, r.1 ∙ append_assoc before (own ∷ []) r.0)
 
 front-splits : (structs : List Members) (n b : ℕ) → n < b → take b structs ≡ take (n + 1) structs ++ take (b - (n + 1)) (drop (n + 1) structs)
 front-splits structs n b h = let e : b ≡ (n + 1) + (b - (n + 1)) = omega arith in ap (λ k. take k structs) e ∙ take-add (n + 1) (b - (n + 1)) structs
 
-pub kinds-at : (structs : List Members) (n b : ℕ) → n < b → b ≤ length structs → slice_get (kinds_front structs b) n ≡ Some (struct_kinds structs n)
-kinds-at structs n b below within = given (kinds_behind-grows (kinds_front structs (n + 1)) (take (b - (n + 1)) (drop (n + 1) structs)))
+pub each-at : {A : Type 0} (has : List A → List Ty → A) (structs : List Members) (n b : ℕ) → n < b → b ≤ length structs → slice_get (each_front has structs b) n ≡ Some (one_at has structs n)
+each-at {A = A} has structs n b below within = given (each_behind-grows has (each_front has structs (n + 1)) (take (b - (n + 1)) (drop (n + 1) structs)))
   where
     here : n < length structs
     here = omega arith
 
-    given : (more : List (List Kind)) × (kinds_behind (kinds_front structs (n + 1)) (take (b - (n + 1)) (drop (n + 1) structs)) ≡ kinds_front structs (n + 1) ++ more)
-        → slice_get (kinds_front structs b) n ≡ Some (struct_kinds structs n)
+    given : (more : List A) × (each_behind has (each_front has structs (n + 1)) (take (b - (n + 1)) (drop (n + 1) structs)) ≡ each_front has structs (n + 1) ++ more)
+        → slice_get (each_front has structs b) n ≡ Some (one_at has structs n)
     given r =
         ap (λ l. slice_get l n)
-        (ap (kinds_behind []) (front-splits structs n b below) ∙
-        (kinds_behind-append [] (take (n + 1) structs) (take (b - (n + 1)) (drop (n + 1) structs)) ∙
-        (r.1 ∙ (ap (λ l. l ++ r.0) (kinds_front-next structs n here) ∙ append_assoc (kinds_front structs n) (struct_kinds structs n ∷ []) r.0)))) ∙
-        (ap (λ k. slice_get (kinds_front structs n ++ struct_kinds structs n ∷ r.0) k) (sym (length-kinds_front structs n (omega arith))) ∙
-        get-next (kinds_front structs n) (struct_kinds structs n) r.0)
+        (ap (each_behind has []) (front-splits structs n b below) ∙
+        (each_behind-append has [] (take (n + 1) structs) (take (b - (n + 1)) (drop (n + 1) structs)) ∙
+        (r.1 ∙ (ap (λ l. l ++ r.0) (each_front-next has structs n here) ∙ append_assoc (each_front has structs n) (one_at has structs n ∷ []) r.0)))) ∙
+        (ap (λ k. slice_get (each_front has structs n ++ one_at has structs n ∷ r.0) k) (sym (length-each_front has structs n (omega arith))) ∙
+        get-next (each_front has structs n) (one_at has structs n) r.0)
 
-pub kinds-past : (structs : List Members) (n b : ℕ) → b ≤ n → b ≤ length structs → slice_get (kinds_front structs b) n ≡ None
-kinds-past structs n b past within = slice_get_past (kinds_front structs b) n (omega (arith, length-kinds_front structs b within))
+pub each-past : {A : Type 0} (has : List A → List Ty → A) (structs : List Members) (n b : ℕ) → b ≤ n → b ≤ length structs → slice_get (each_front has structs b) n ≡ None
+each-past has structs n b past within = slice_get_past (each_front has structs b) n (omega (arith, length-each_front has structs b within))
 
 -- ---- structs as the program will have them
 
@@ -261,7 +261,7 @@ known-count structs ty k e =
 -- a struct that is known to have no words has no kinds
 pub no-kinds : (structs : List Members) (n : ℕ) → n < length structs → has_count 0 (type_words (plain_structs structs) (struct_type n)) ≡ true → struct_kinds structs n ≡ []
 no-kinds structs n within e =
-    ap (λ o. unwrap_or o []) (sym (kinds-at structs n (length structs) within (omega arith))) ∙
+    ap (λ o. unwrap_or o []) (sym (each-at types_kinds structs n (length structs) within (omega arith))) ∙
     (sym (kinds-are structs (struct_type n)) ∙
     nil_from_length (type_kinds structs (struct_type n)) (by (type_words (plain_structs structs) (struct_type n)) refl e))
   where
@@ -327,38 +327,3 @@ other-known count words same (Some n) is e = ap not (is n (cc e))
 pub other-none : (count : ℕ) (known : Option ℕ) → None ≡ option_map counted known → false ≡ is_other count known
 other-none count None e = refl
 other-none count (Some n) e = absurd (cc e)
-
--- ---- the members of a struct, one by one
-
-pub type-read : (members : List Member) (at : ℕ) (ty : Option HlType) → Some ty ≡ option_map (λ m. m.1) (slice_get members at)
-    → get_or (member_types members) at void_type ≡ unwrap_or (plain_type_if ty) void_type
-type-read [] at ty e = absurd (cc e)
-type-read (m ∷ members) zero ty e =
-    let same : m.1 ≡ ty = cc in
-    ap (λ t. unwrap_or (plain_type_if t) void_type) same
-type-read (m ∷ members) (suc at) ty e = type-read members at ty e
-
-pub type-past : (members : List Member) (at : ℕ) → None ≡ option_map (λ m. m.1) (slice_get members at) → get_or (member_types members) at void_type ≡ void_type
-type-past [] at e = refl
-type-past (m ∷ members) zero e = absurd (cc e)
-type-past (m ∷ members) (suc at) e = type-past members at e
-
-types-left : (members : List Member) (at : ℕ) → at < length members → member_types (drop at members) ≡ get_or (member_types members) at void_type ∷ member_types (drop (at + 1) members)
-types-left members at within =
-    let there = ap (option_map (λ (m : Member). m.1)) (slice_get-get_or members at ([], None) within) in
-    types-at members at (get_or members at ([], None)).1 (sym there) ∙
-    ap (λ t. t ∷ member_types (drop (at + 1) members)) (sym (type-read members at (get_or members at ([], None)).1 (sym there)))
-
-pub kinds-turn : (kinds : List (List Kind)) (members : List Member) (at : ℕ) (held more next whole : List Kind) → at < length members
-    → held ++ types_kinds kinds (member_types (drop at members)) ≡ whole → more ≡ kinds_in kinds (get_or (member_types members) at void_type) → next ≡ held ++ more
-    → next ++ types_kinds kinds (member_types (drop (at + 1) members)) ≡ whole
-kinds-turn kinds members at held more next whole within invariant own pushed =
-    let rest = types_kinds kinds (member_types (drop (at + 1) members)) in
-    ap (λ l. l ++ rest) (pushed ∙ ap (λ l. held ++ l) own) ∙
-    (append_assoc held (kinds_in kinds (get_or (member_types members) at void_type)) rest ∙
-    (ap (λ l. held ++ types_kinds kinds l) (sym (types-left members at within)) ∙ invariant))
-
-pub kinds-end : (kinds : List (List Kind)) (members : List Member) (at : ℕ) (held whole : List Kind) → length members ≤ at
-    → held ++ types_kinds kinds (member_types (drop at members)) ≡ whole → held ≡ whole
-kinds-end kinds members at held whole past invariant =
-    sym (append-nil held) ∙ (ap (λ l. held ++ types_kinds kinds (member_types l)) (sym (drop_all at members past)) ∙ invariant)

@@ -17,10 +17,12 @@ mod FunctionLemmas
 mod FunctionScopes
 mod IndexLemmas
 mod InitShapes
+mod InnermostLemmas
 mod ItemLemmas
 mod KindLemmas
 mod LayoutLemmas
 mod LeafLemmas
+mod ListingLemmas
 mod LocalNotes
 mod MadeForms
 mod MadeLemmas

@@ -5,6 +5,7 @@ pub mod Functions
 pub mod Items
 pub mod Kinds
 pub mod Leaves
+pub mod Listing
 pub mod Postfix
 pub mod Semantics
 pub mod Signatures

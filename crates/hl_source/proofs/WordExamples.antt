@@ -8,7 +8,7 @@ use Rattle.hl_meaning.specs.declared.ty.Kind.TheVariants.{Bool as BoolKind, Int 
 use Rattle.hl_meaning.specs.Types.{scalar_type, vector_type, void_type}
 use Rattle.hl_meaning.specs.Programs.{Resource}
 use Rattle.hl_meaning.specs.Slots.{slots_of}
-use Rattle.hl_source.specs.Words.{first_bit_low, shift_left, signed_quotient, signed_remainder, signed_shift_right, unsigned_shift_right, wrapping_add, wrapping_mul, wrapping_sub}
+use Rattle.lane_core.specs.Words.{first_bit_low, shift_left, signed_quotient, signed_remainder, signed_shift_right, unsigned_shift_right, wrapping_add, wrapping_mul, wrapping_sub}
 use Rattle.hl_source.specs.Operations.{binary_words, converted, unary_word}
 use Rattle.hl_source.specs.Intrinsics.{absolute, clamped}
 

@@ -9,7 +9,7 @@ use Rattle.lane_core.specs.declared.event.WaveKind.TheVariants.{AllEqual, AllTru
 use Rattle.lane_core.specs.Lane.{Lane}
 use Rattle.hl_meaning.specs.declared.ty.Kind.{Kind}
 use Rattle.hl_meaning.specs.Types.{Ty}
-use Rattle.hl_source.specs.Words.{first_bit_low, holds, truth, wrapped, wrapping_sub}
+use Rattle.lane_core.specs.Words.{first_bit_low, holds, truth, wrapped, wrapping_sub}
 use Rattle.hl_source.specs.Operations.{by_sign, component_kind, less, map_2, map_3, word_as}
 use Rattle.hl_source.specs.State.{Context, Progress, State, after, asks, asks_word, each, goes_with, no_value, reply_words}
 

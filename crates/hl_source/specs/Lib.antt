@@ -1,4 +1,3 @@
-pub mod Words
 pub mod Operations
 pub mod State
 pub mod Offsets

@@ -7,7 +7,7 @@ use Rattle.hl_meaning.specs.Trees.{Expr, Location, PathParts, Root, a_location, 
 use Rattle.hl_meaning.specs.Programs.{Member, StructDef}
 use Rattle.hl_meaning.specs.Layout.{words_of}
 use Rattle.hl_meaning.specs.Places.{root_type}
-use Rattle.hl_source.specs.Words.{wrapping_add, wrapping_mul}
+use Rattle.lane_core.specs.Words.{wrapping_add, wrapping_mul}
 use Rattle.hl_source.specs.Operations.{component_kind, picked}
 use Rattle.hl_source.specs.State.{Context}
 

@@ -6,7 +6,7 @@ use Rattle.lane_core.specs.declared.event.LaneFault.{LaneFault}
 use Rattle.hl_meaning.specs.declared.ty.Kind.{Kind}
 use Rattle.hl_meaning.specs.declared.ty.Kind.TheVariants.{Bool as BoolKind, Int as IntKind, Uint as UintKind}
 use Rattle.hl_meaning.specs.Types.{Ty, component_count, is_scalar, scalar_type, vector_type}
-use Rattle.hl_source.specs.Words.{complement, holds, shift_left, signed_less, signed_quotient, signed_remainder, signed_shift_right, truth, unsigned_less, unsigned_quotient, unsigned_remainder, unsigned_shift_right, wrapping_add, wrapping_mul, wrapping_sub}
+use Rattle.lane_core.specs.Words.{complement, holds, shift_left, signed_less, signed_quotient, signed_remainder, signed_shift_right, truth, unsigned_less, unsigned_quotient, unsigned_remainder, unsigned_shift_right, wrapping_add, wrapping_mul, wrapping_sub}
 
 -- components of several lists in order; those of a well-formed program have one length
 

@@ -10,7 +10,7 @@ use Rattle.hl_meaning.specs.Programs.{FunctionDef, Program, Variable}
 use Rattle.hl_meaning.specs.Places.{variable_type}
 use Rattle.hl_meaning.specs.Slots.{slots_of}
 use Rattle.hl_meaning.specs.WellFormed.{scope_of}
-use Rattle.hl_source.specs.Words.{wrapped}
+use Rattle.lane_core.specs.Words.{wrapped}
 use Rattle.hl_source.specs.Expressions.{no_callee}
 use Rattle.hl_source.specs.State.{Callee, Context, Progress, State, after, ends_at, goes_with}
 use Rattle.hl_source.specs.Memory.{zeros_of}

@@ -8,7 +8,7 @@ use Rattle.lane_core.specs.declared.event.Slot.{Slot}
 use Rattle.lane_core.specs.declared.event.Asked.TheVariants.{Fault, Goes}
 use Rattle.lane_core.specs.Lane.{Exchange, Lane, Run, ask, standing}
 use Rattle.hl_meaning.specs.Places.{Scope}
-use Rattle.hl_source.specs.Words.{wrapped}
+use Rattle.lane_core.specs.Words.{wrapped}
 
 -- the words of each variable of the function that runs, and what was asked so far
 pub record State : Type 0 where

@@ -1,2 +1,3 @@
 pub mod Lane
 pub mod SameLane
+pub mod Words

@@ -1,0 +1,4 @@
+pub mod FlatTrees
+pub mod FlatViews
+pub mod FlatWellFormed
+pub mod IndexedVariables

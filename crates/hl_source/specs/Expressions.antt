@@ -1,0 +1,201 @@
+-- What an expression does (HLSL, "Expressions"; that operands are evaluated from left to right, all of them, is this
+-- project's own).
+--
+-- An expression evaluates its operands in order, and then acts on their words. The first table alone says which operands
+-- a form has and in which order, and the second alone says what is done with them.
+use Rattle.std.specs.Prelude.{ℕ, Bool, if◌then◌else◌, List, [], ◌∷◌, ◌++◌, map, take, slice_get, slice_index, slice_index_or, Option, Some, None}
+use Rattle.std.specs.Option.{option_map_or}
+use Rattle.std.specs.List.{concat}
+use Rattle.lane_core.specs.declared.event.AtomicKind.{AtomicKind}
+use Rattle.hl_meaning.specs.declared.program.Copying.{Copying}
+use Rattle.hl_meaning.specs.declared.program.Copying.TheVariants.{CopyBoth, CopyIn, CopyOut}
+use Rattle.hl_meaning.specs.declared.program.Parameter.{Parameter}
+use Rattle.hl_meaning.specs.Types.{Ty}
+use Rattle.hl_meaning.specs.Trees.{Arg, Args, Expr, Exprs, Form, Location, MaybeExpr, MaybeLocation, PathPart, PathParts, Root, Target, a_location, an_expr, atomic_form, binary_form, build_form, bytes_target, call_form, choose_form, convert_form, element_root, index_part, intrinsic_form, literal_form, method_form, more_args, more_exprs, more_parts, no_args, no_expr, no_exprs, no_location, no_parts, pick_form, place_arg, place_target, place_type, read_form, some_expr, some_location, type_of, unary_form, value_arg, write_form}
+use Rattle.hl_source.specs.Operations.{binary_words, chosen_word, component_kind, converted, map_3, unary_word}
+use Rattle.hl_source.specs.State.{Callee, Context, Progress, State, after, alone, each, first_then, gives, goes_with, joined, no_value}
+use Rattle.hl_source.specs.Offsets.{picked_words, place_of, slot_of}
+use Rattle.hl_source.specs.Memory.{atomic_address, atomic_word, load_four, read_place, store_four, write_place, zeros_of}
+use Rattle.hl_source.specs.Intrinsics.{work_of, worked}
+
+-- calls
+
+-- the parameters of the function of a number
+abbrev pub parameters_of : Context → (function : ℕ) → List Parameter
+parameters_of c function = option_map_or (λ f. f.parameters) (slice_get c.scope.functions function) []
+
+-- What a parameter starts with whose argument is a place: an `out` parameter with zeros, and an `inout` parameter with
+-- the value of the place.
+abbrev pub starts_with : Context → Copying → Location → (indexes : List ℕ) → State → Progress (List ℕ)
+starts_with c CopyOut place indexes s = goes_with (zeros_of c (place_type place)) s
+starts_with c _ place indexes s = read_place c place indexes s
+
+-- the two operands of an argument: the indexes of its place, none where it is a value, and what its parameter starts with
+abbrev pub argument : (indexes start : List ℕ) → List (List ℕ)
+argument indexes start = indexes ∷ start ∷ []
+
+-- what the parameters start with, of the operands of a call
+abbrev pub starts : List (List ℕ) → List (List ℕ)
+starts (indexes ∷ start ∷ operands) = start ∷ starts operands
+starts _ = []
+
+-- Behind the body the values of `out` and `inout` parameters are written back, in order of the parameters.
+abbrev pub copies_out : Context → Args → (operands parameters : List (List ℕ)) → State → Progress (List ℕ)
+copies_out c (more_args (place_arg place) rest) (indexes ∷ start ∷ operands) (words ∷ parameters) s =
+    after (write_place c place indexes words s) (λ _ s'. copies_out c rest operands parameters s')
+copies_out c (more_args (value_arg value) rest) (indexes ∷ start ∷ operands) (words ∷ parameters) s =
+    copies_out c rest operands parameters s
+copies_out c _ _ _ s = goes_with [] s
+
+-- A call runs the function with variables of its own. Its result is computed before the values are written back.
+abbrev pub calls : Context → Callee → Args → (operands : List (List ℕ)) → State → Progress (List ℕ)
+calls c callee args operands s =
+    after (callee (starts operands) s.exchange) (λ result ended.
+    after (copies_out c args operands ended.variables (record s { exchange = ended.exchange })) (λ _ s'. goes_with result s'))
+
+-- a function that isn't there does nothing
+abbrev pub no_callee : Callee
+no_callee parameters exchange = goes_with [] (record { variables = parameters; exchange = exchange })
+
+-- assignments
+
+-- what is written: the value; or, with an operator, what it computes in a type from the value that the place has and the
+-- new one, converted to the type of the place
+abbrev pub assigned : Option ℕ → (common to : Ty) → (before words : List ℕ) → State → Progress (List ℕ)
+assigned None common to before words s = goes_with words s
+assigned (Some op) common to before words s =
+    after (gives (binary_words op (component_kind common) (converted to common before) words) s)
+    (λ computed s'. goes_with (converted common to computed) s')
+
+-- a place is read for an operator alone
+abbrev pub read_if : Context → Option ℕ → Location → (indexes : List ℕ) → State → Progress (List ℕ)
+read_if c None place indexes s = goes_with [] s
+read_if c (Some op) place indexes s = read_place c place indexes s
+
+-- An assignment with an operator reads its place, then computes, then writes. Its value is what is written, and that of
+-- a postfix `++` or `--` is the old one.
+abbrev pub assigns : Context → Location → Option ℕ → (common : Ty) → (old : Bool) → (indexes words : List ℕ) → State → Progress (List ℕ)
+assigns c to op common old indexes words s =
+    after (read_if c op to indexes s) (λ before s1.
+    after (assigned op common (place_type to) before words s1) (λ written s2.
+    after (write_place c to indexes written s2) (λ _ s3. goes_with (if old then before else written) s3)))
+
+-- atomic operations
+
+-- the word that the target had: of the place with these indexes, or at this byte address
+abbrev pub atomic_original : Context → Target → Option AtomicKind → (indexes : List ℕ) → (compare word : ℕ) → State → Progress ℕ
+atomic_original c (place_target place) kind indexes compare word s =
+    atomic_word c (place_of c place indexes).holder (place_of c place indexes).at.offset kind compare word s
+atomic_original c (bytes_target resource address) kind indexes compare word s =
+    atomic_address (slot_of c resource) (slice_index indexes 0) kind compare word s
+
+-- the original value is written where a place for it is given
+abbrev pub write_if : Context → MaybeLocation → (indexes words : List ℕ) → State → Progress (List ℕ)
+write_if c no_location indexes words s = goes_with [] s
+write_if c (some_location place) indexes words s = write_place c place indexes words s
+
+-- the second table: what each form does with the words of its operands
+abbrev pub acts : Context → Ty → Form → (operands : List (List ℕ)) → State → Progress (List ℕ)
+acts c ty (literal_form word) [] s = goes_with (word ∷ []) s
+acts c ty (read_form place) (indexes ∷ []) s = read_place c place indexes s
+acts c ty (write_form to op common value old) (indexes ∷ words ∷ []) s = assigns c to op common old indexes words s
+acts c ty (convert_form value) (words ∷ []) s = goes_with (converted (type_of value) ty words) s
+acts c ty (unary_form op value) (words ∷ []) s = goes_with (map (unary_word op) words) s
+acts c ty (binary_form op left right) (words ∷ others ∷ []) s =
+    gives (binary_words op (component_kind (type_of left)) words others) s
+acts c ty (choose_form cond consequent alternative) (truths ∷ words ∷ others ∷ []) s =
+    goes_with (map_3 chosen_word truths words others) s
+acts c ty (build_form parts) operands s = goes_with (concat operands) s
+acts c ty (pick_form value parts) (words ∷ []) s =
+    goes_with (picked_words c.scope.structs (type_of value) parts words) s
+acts c ty (call_form function args) operands s =
+    calls c (slice_index_or c.callees function no_callee) args operands s
+acts c ty (intrinsic_form number args) operands s = worked c (work_of number) ty operands s
+-- a byte address is an index with the offset 0
+acts c ty (method_form resource count address no_expr) (at ∷ []) s =
+    after (load_four (slot_of c resource) (slice_index at 0) 0 s) (λ words s'. goes_with (take count words) s')
+acts c ty (method_form resource count address (some_expr value)) (at ∷ words ∷ []) s =
+    store_four (slot_of c resource) (slice_index at 0) 0 words s
+acts c ty (atomic_form target kind compare value original) (at ∷ compared ∷ words ∷ place ∷ []) s =
+    after (atomic_original c target kind at (slice_index compared 0) (slice_index words 0) s)
+    (λ before s'. no_value (write_if c original place (before ∷ []) s'))
+acts c ty _ _ s = goes_with [] s
+
+abbrev mutual
+  -- the value of an expression
+  pub evaluates : Context → Expr → State → Progress (List ℕ)
+  evaluates c (an_expr ty at form) s = after (operands c form s) (acts c ty form)
+
+  -- The first table: the operands of each form, in order. An operand is a value, or the indexes of a place. What may be
+  -- left out has no words.
+  pub operands : Context → Form → State → Progress (List (List ℕ))
+  operands c (literal_form word) s = goes_with [] s
+  operands c (read_form place) s = alone (indexes c place s)
+  operands c (write_form to op common value old) s = first_then (indexes c to s) (λ s'. alone (evaluates c value s'))
+  operands c (convert_form value) s = alone (evaluates c value s)
+  operands c (unary_form op value) s = alone (evaluates c value s)
+  operands c (binary_form op left right) s = first_then (evaluates c left s) (λ s'. alone (evaluates c right s'))
+  operands c (choose_form cond consequent alternative) s =
+      first_then (evaluates c cond s) (λ s1. first_then (evaluates c consequent s1) (λ s2. alone (evaluates c alternative s2)))
+  operands c (build_form parts) s = values c parts s
+  operands c (pick_form value parts) s = alone (evaluates c value s)
+  operands c (call_form function args) s = arguments c args (parameters_of c function) s
+  operands c (intrinsic_form number args) s = values c args s
+  operands c (method_form resource count address value) s =
+      first_then (evaluates c address s) (λ s'. values_if c value s')
+  operands c (atomic_form target kind compare value original) s =
+      first_then (target_indexes c target s) (λ s1.
+      first_then (value_if c compare s1) (λ s2.
+      first_then (evaluates c value s2) (λ s3. alone (indexes_if c original s3))))
+
+  -- the indexes of a place, in order, the one of an element of a buffer first; each is one word
+  pub indexes : Context → Location → State → Progress (List ℕ)
+  indexes c (a_location ty root parts) s = joined (root_index c root s) (λ s'. step_indexes c parts s')
+
+  pub root_index : Context → Root → State → Progress (List ℕ)
+  root_index c (element_root resource index) s = evaluates c index s
+  root_index c _ s = goes_with [] s
+
+  pub step_indexes : Context → PathParts → State → Progress (List ℕ)
+  step_indexes c no_parts s = goes_with [] s
+  step_indexes c (more_parts first rest) s = joined (step_index c first s) (λ s'. step_indexes c rest s')
+
+  pub step_index : Context → PathPart → State → Progress (List ℕ)
+  step_index c (index_part index) s = evaluates c index s
+  step_index c _ s = goes_with [] s
+
+  -- the place's indexes, or the address
+  pub target_indexes : Context → Target → State → Progress (List ℕ)
+  target_indexes c (place_target place) s = indexes c place s
+  target_indexes c (bytes_target resource address) s = evaluates c address s
+
+  pub values : Context → Exprs → State → Progress (List (List ℕ))
+  values c no_exprs s = goes_with [] s
+  values c (more_exprs first rest) s = first_then (evaluates c first s) (λ s'. values c rest s')
+
+  -- a value that may be left out: none then, or one without words
+
+  pub values_if : Context → MaybeExpr → State → Progress (List (List ℕ))
+  values_if c no_expr s = goes_with [] s
+  values_if c (some_expr value) s = alone (evaluates c value s)
+
+  pub value_if : Context → MaybeExpr → State → Progress (List ℕ)
+  value_if c no_expr s = goes_with [] s
+  value_if c (some_expr value) s = evaluates c value s
+
+  pub indexes_if : Context → MaybeLocation → State → Progress (List ℕ)
+  indexes_if c no_location s = goes_with [] s
+  indexes_if c (some_location place) s = indexes c place s
+
+  -- the arguments of a call in order, two operands each
+  pub arguments : Context → Args → List Parameter → State → Progress (List (List ℕ))
+  arguments c (more_args first rest) (p ∷ parameters) s =
+      joined (argument_of c first p.copying s) (λ s'. arguments c rest parameters s')
+  arguments c _ _ s = goes_with [] s
+
+  -- An `in` argument is evaluated. An `inout` argument evaluates its indexes and is then read. An `out` argument
+  -- evaluates its indexes.
+  pub argument_of : Context → Arg → Copying → State → Progress (List (List ℕ))
+  argument_of c (value_arg value) passing s = after (evaluates c value s) (λ words s'. goes_with (argument [] words) s')
+  argument_of c (place_arg place) passing s =
+      after (indexes c place s) (λ at s1. after (starts_with c passing place at s1) (λ start s2. goes_with (argument at start) s2))

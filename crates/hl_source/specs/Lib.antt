@@ -1,0 +1,10 @@
+pub mod Words
+pub mod Operations
+pub mod State
+pub mod Offsets
+pub mod Memory
+pub mod Intrinsics
+pub mod Expressions
+pub mod Statements
+pub mod SourceLane
+pub mod Laws

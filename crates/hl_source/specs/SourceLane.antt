@@ -1,0 +1,112 @@
+-- What a lane of a program does: the meaning by which everything that is made of the program is judged.
+use Rattle.std.specs.Prelude.{ℕ, ◌+◌, ◌*◌, List, [], ◌∷◌, ◌++◌, map, drop, take, length, slice_get, slice_index, unwrap_or, Option, Some, None, option_map}
+use Rattle.std.specs.Option.{option_map_or}
+use Rattle.lane_core.specs.declared.event.Reply.{Reply}
+use Rattle.lane_core.specs.declared.event.Asked.TheVariants.{Ended}
+use Rattle.lane_core.specs.declared.event.Slot.{Slot}
+use Rattle.lane_core.specs.Lane.{Coordinates, Exchange, Lane, LaneMeaning, Run, first_exchange, standing}
+use Rattle.hl_meaning.specs.declared.program.Parameter.{Parameter}
+use Rattle.hl_meaning.specs.declared.program.Semantic.{Semantic}
+use Rattle.hl_meaning.specs.declared.program.Semantic.TheVariants.{DispatchThreadId, GroupId, GroupIndex, GroupThreadId}
+use Rattle.hl_meaning.specs.Types.{component_count, void_type}
+use Rattle.hl_meaning.specs.Programs.{FunctionDef, Program, Variable}
+use Rattle.hl_meaning.specs.Places.{variable_type}
+use Rattle.hl_meaning.specs.Slots.{slots_of}
+use Rattle.hl_meaning.specs.WellFormed.{scope_of}
+use Rattle.hl_source.specs.Words.{wrapped}
+use Rattle.hl_source.specs.Expressions.{no_callee}
+use Rattle.hl_source.specs.State.{Callee, Context, Progress, State, after, ends_at, goes_with}
+use Rattle.hl_source.specs.Memory.{zeros_of}
+use Rattle.hl_source.specs.Statements.{Leaving, at_end, by_break, by_continue, by_return, does_all}
+
+-- functions
+
+-- the value that a body is left with
+abbrev pub value_of : Leaving → List ℕ
+value_of (by_return value) = value
+value_of _ = []
+
+-- A function starts with the words of its parameters, whose variables are its first ones. Its other variables are set
+-- where they are declared; until then they are zeros.
+abbrev pub first_state : Context → FunctionDef → (parameters : List (List ℕ)) → Exchange → State
+first_state c f parameters exchange = record {
+  variables = parameters ++ map (λ v. zeros_of c v.ty) (drop (length f.parameters) f.variables);
+  exchange = exchange;
+}
+
+-- a function as it is called, where each loop takes at most n turns
+abbrev pub callee_of : Context → (n : ℕ) → FunctionDef → Callee
+callee_of c n f parameters exchange =
+    after (does_all c n f.body (first_state c f parameters exchange)) (λ leaving s. goes_with (value_of leaving) s)
+
+-- what is known in a function that stands behind others
+abbrev pub context_of : Program → Lane → (earlier : List Callee) → FunctionDef → Context
+context_of p lane earlier f = record {
+  scope = scope_of p (length earlier) f;
+  slots = slots_of p.resources;
+  callees = earlier;
+  lane = lane;
+}
+
+-- The functions as they are called, behind those before them. A function calls earlier ones alone.
+abbrev pub callees_after : Program → Lane → (n : ℕ) → (earlier : List Callee) → List FunctionDef → List Callee
+callees_after p lane n earlier [] = earlier
+callees_after p lane n earlier (f ∷ functions) =
+    callees_after p lane n (earlier ++ callee_of (context_of p lane earlier f) n f ∷ []) functions
+
+-- the inputs of the entry (HLSL, "Semantics")
+
+abbrev pub components : Coordinates → List ℕ
+components at = at.x ∷ at.y ∷ at.z ∷ []
+
+-- the threads of a group in each direction
+abbrev pub grid_of : List ℕ → Coordinates
+grid_of threads = record { x = slice_index threads 0; y = slice_index threads 1; z = slice_index threads 2 }
+
+-- a thread's place in the whole dispatch: its group times the threads of a group, and its place in the group
+abbrev pub dispatch_thread : (threads group thread : Coordinates) → Coordinates
+dispatch_thread threads group thread = record {
+  x = group.x * threads.x + thread.x;
+  y = group.y * threads.y + thread.y;
+  z = group.z * threads.z + thread.z;
+}
+
+-- a thread's number in its group
+abbrev pub flat_index : (threads thread : Coordinates) → ℕ
+flat_index threads thread = thread.x + (thread.y * threads.x + thread.z * threads.x * threads.y)
+
+-- SV_DispatchThreadID, SV_GroupID, SV_GroupThreadID and SV_GroupIndex
+abbrev pub semantic_components : (threads : Coordinates) → Lane → Option Semantic → List ℕ
+semantic_components threads lane (Some DispatchThreadId) = components (dispatch_thread threads lane.group lane.thread)
+semantic_components threads lane (Some GroupId) = components lane.group
+semantic_components threads lane (Some GroupThreadId) = components lane.thread
+semantic_components threads lane (Some GroupIndex) = flat_index threads lane.thread ∷ []
+semantic_components threads lane None = []
+
+-- a parameter with fewer components has the first ones; int and uint have the same bits
+abbrev pub input_words : Program → Lane → List Variable → Parameter → List ℕ
+input_words p lane variables parameter =
+    take (component_count (unwrap_or (variable_type variables parameter.variable) void_type))
+    (map wrapped (semantic_components (grid_of p.threads) lane parameter.semantic))
+
+abbrev pub inputs : Program → Lane → Option FunctionDef → List (List ℕ)
+inputs p lane None = []
+inputs p lane (Some f) = map (input_words p lane f.variables) f.parameters
+
+-- the lane
+
+-- where the run of the entry ends
+abbrev pub ended : Progress (List ℕ) → Run
+ended (goes_with value s) = standing s.exchange Ended
+ended (ends_at run) = run
+
+-- the entry, as it is called
+abbrev pub entry_of : Program → Lane → (n : ℕ) → Callee
+entry_of p lane n = unwrap_or (slice_get (callees_after p lane n [] p.functions) p.entry) no_callee
+
+-- A lane of a program runs its entry with its inputs. Each `static const` is set before, and no event is asked for it.
+-- Where each loop takes at most n turns, and the k-th event takes the k-th reply, the lane ends, has a fault, asks an
+-- event, or goes on past the bound.
+unfoldable pub source_lane : Program → LaneMeaning
+source_lane p n lane replies =
+    Some (ended (entry_of p lane n (inputs p lane (slice_get p.functions p.entry)) (first_exchange replies)))

@@ -1,0 +1,8 @@
+//! Laws on the meaning of programs: functions that do nothing, and whose contracts say what always holds.
+
+ghost use Rattle.hl_source.specs.Laws.{SourceIsNeverWrong};
+
+/// Each lane of each program has a run, whatever the replies and the bound are.
+pub fn source_is_never_wrong()
+    ensures { SourceIsNeverWrong }
+{}

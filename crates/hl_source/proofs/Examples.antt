@@ -30,7 +30,7 @@ ends_behind_the_store = refl
 abbrev adds_to_a_tile : Program
 adds_to_a_tile =
     kernel (array_type uint_type 4 ∷ []) [] (
-      run_stmt (expr uint_type (write_form (a_location uint_type (shared_root 0) (more_parts (index_part (load 0)) no_parts)) (Some 12) uint_type (load 4) false)) ∷ [])
+    run_stmt (expr uint_type (write_form (a_location uint_type (shared_root 0) (more_parts (index_part (load 0)) no_parts)) (Some 12) uint_type (load 4) false)) ∷ [])
 
 reads_between : RunsTo adds_to_a_tile 0 (2 ∷ 5 ∷ 7 ∷ 0 ∷ [])
     (loaded 0 ∷ loaded 4 ∷ SharedLoad (record { variable = 0; word = 2 }) ∷ SharedStore (record { variable = 0; word = 2 }) 12 ∷ []) Ended
@@ -46,9 +46,9 @@ faults_where_it_is_reached = refl
 abbrev counts_up : Program
 counts_up =
     kernel [] (uint_type ∷ []) (
-      local_stmt 0 (Some (uint_word 5)) ∷
-      store 0 (expr uint_type (write_form (a_location uint_type (variable_root 0) no_parts) (Some 12) uint_type (expr uint_type (convert_form (int_word 1))) true)) ∷
-      store 4 (variable_read uint_type 0) ∷ [])
+    local_stmt 0 (Some (uint_word 5)) ∷
+    store 0 (expr uint_type (write_form (a_location uint_type (variable_root 0) no_parts) (Some 12) uint_type (expr uint_type (convert_form (int_word 1))) true)) ∷
+    store 4 (variable_read uint_type 0) ∷ [])
 
 has_the_old_value : RunsTo counts_up 0 (0 ∷ 0 ∷ []) (stored 0 5 ∷ stored 4 6 ∷ []) Ended
 unfolding source_lane words_of kinds_of
@@ -59,10 +59,10 @@ has_the_old_value = refl
 abbrev writes_letters : Program
 writes_letters =
     kernel (uints 3 ∷ []) (uints 3 ∷ []) (
-      local_stmt 0 (Some (built (uints 3) (uint_word 1 ∷ uint_word 2 ∷ uint_word 3 ∷ []))) ∷
-      set_place (uints 2) (variable_root 0) (more_parts (swizzle_part (2 ∷ 0 ∷ [])) no_parts) (built (uints 2) (uint_word 7 ∷ uint_word 8 ∷ [])) ∷
-      store_3 0 (variable_read (uints 3) 0) ∷
-      set_place (uints 2) (shared_root 0) (more_parts (swizzle_part (2 ∷ 0 ∷ [])) no_parts) (built (uints 2) (uint_word 7 ∷ uint_word 8 ∷ [])) ∷ [])
+    local_stmt 0 (Some (built (uints 3) (uint_word 1 ∷ uint_word 2 ∷ uint_word 3 ∷ []))) ∷
+    set_place (uints 2) (variable_root 0) (more_parts (swizzle_part (2 ∷ 0 ∷ [])) no_parts) (built (uints 2) (uint_word 7 ∷ uint_word 8 ∷ [])) ∷
+    store_3 0 (variable_read (uints 3) 0) ∷
+    set_place (uints 2) (shared_root 0) (more_parts (swizzle_part (2 ∷ 0 ∷ [])) no_parts) (built (uints 2) (uint_word 7 ∷ uint_word 8 ∷ [])) ∷ [])
 
 one_store_a_letter : RunsTo writes_letters 0 (0 ∷ 0 ∷ 0 ∷ [])
     (BufferStore dst_slot 0 0 3 (8 ∷ 2 ∷ 7 ∷ 0 ∷ []) ∷ SharedStore (record { variable = 0; word = 2 }) 7 ∷ SharedStore (record { variable = 0; word = 0 }) 8 ∷ []) Ended
@@ -75,11 +75,11 @@ one_store_a_letter = refl
 abbrev joins_both : Program
 joins_both =
     program_with [] [] [] (
-      function bool_type (record { variable = 0; copying = CopyIn; semantic = None } ∷ []) (uint_type ∷ []) (
-        store 0 (variable_read uint_type 0) ∷ return_stmt (Some (expr bool_type (literal_form 1))) ∷ []) ∷
-      function void_type [] (bool_type ∷ []) (
-        local_stmt 0 (Some (expr bool_type (binary_form 24 (expr bool_type (literal_form 0)) (expr bool_type (call_form 0 (more_args (value_arg (uint_word 7)) no_args)))))) ∷
-        store 4 (expr uint_type (convert_form (variable_read bool_type 0))) ∷ []) ∷ []) 1
+    function bool_type (record { variable = 0; copying = CopyIn; semantic = None } ∷ []) (uint_type ∷ []) (
+    store 0 (variable_read uint_type 0) ∷ return_stmt (Some (expr bool_type (literal_form 1))) ∷ []) ∷
+    function void_type [] (bool_type ∷ []) (
+    local_stmt 0 (Some (expr bool_type (binary_form 24 (expr bool_type (literal_form 0)) (expr bool_type (call_form 0 (more_args (value_arg (uint_word 7)) no_args)))))) ∷
+    store 4 (expr uint_type (convert_form (variable_read bool_type 0))) ∷ []) ∷ []) 1
 
 evaluates_both : RunsTo joins_both 0 (0 ∷ 0 ∷ []) (stored 0 7 ∷ stored 4 0 ∷ []) Ended
 unfolding source_lane words_of kinds_of
@@ -95,11 +95,11 @@ raise number by =
 abbrev copies_twice : Program
 copies_twice =
     program_with [] [] [] (
-      function void_type (record { variable = 0; copying = CopyBoth; semantic = None } ∷ record { variable = 1; copying = CopyBoth; semantic = None } ∷ []) (uint_type ∷ uint_type ∷ []) (raise 0 1 ∷ raise 1 10 ∷ []) ∷
-      function void_type [] (uint_type ∷ []) (
-        local_stmt 0 (Some (uint_word 5)) ∷
-        run_stmt (expr void_type (call_form 0 (more_args (place_arg (a_location uint_type (variable_root 0) no_parts)) (more_args (place_arg (a_location uint_type (variable_root 0) no_parts)) no_args)))) ∷
-        store 0 (variable_read uint_type 0) ∷ []) ∷ []) 1
+    function void_type (record { variable = 0; copying = CopyBoth; semantic = None } ∷ record { variable = 1; copying = CopyBoth; semantic = None } ∷ []) (uint_type ∷ uint_type ∷ []) (raise 0 1 ∷ raise 1 10 ∷ []) ∷
+    function void_type [] (uint_type ∷ []) (
+    local_stmt 0 (Some (uint_word 5)) ∷
+    run_stmt (expr void_type (call_form 0 (more_args (place_arg (a_location uint_type (variable_root 0) no_parts)) (more_args (place_arg (a_location uint_type (variable_root 0) no_parts)) no_args)))) ∷
+    store 0 (variable_read uint_type 0) ∷ []) ∷ []) 1
 
 the_last_copy_counts : RunsTo copies_twice 0 (0 ∷ []) (stored 0 15 ∷ []) Ended
 unfolding source_lane words_of kinds_of
@@ -118,11 +118,11 @@ goes_on_and_on = refl
 abbrev loops_twice : Program
 loops_twice =
     kernel [] (uint_type ∷ []) (
-      block_stmt (stmts (
-        for_stmt (stmts (local_stmt 0 (Some (uint_word 0)) ∷ []))
-          (Some (expr bool_type (binary_form 17 (variable_read uint_type 0) (uint_word 2))))
-          (Some (expr uint_type (write_form (a_location uint_type (variable_root 0) no_parts) (Some 12) uint_type (uint_word 1) true)))
-          (store 0 (variable_read uint_type 0)) ∷ [])) ∷ [])
+    block_stmt (stmts (
+    for_stmt (stmts (local_stmt 0 (Some (uint_word 0)) ∷ []))
+    (Some (expr bool_type (binary_form 17 (variable_read uint_type 0) (uint_word 2))))
+    (Some (expr uint_type (write_form (a_location uint_type (variable_root 0) no_parts) (Some 12) uint_type (uint_word 1) true)))
+    (store 0 (variable_read uint_type 0)) ∷ [])) ∷ [])
 
 -- two turns aren't enough, since the third one's test ends the loop
 needs_a_third_turn : RunsTo loops_twice 2 (0 ∷ 0 ∷ []) (stored 0 0 ∷ stored 0 1 ∷ []) Goes
@@ -137,9 +137,9 @@ ends_in_the_third_turn = refl
 abbrev divides : (by : ℕ) → Program
 divides by =
     kernel [] (int_type ∷ []) (
-      local_stmt 0 (Some (expr int_type (convert_form (uint_word 2147483648)))) ∷
-      store 0 (uint_word 1) ∷
-      store 4 (expr uint_type (convert_form (expr int_type (binary_form 15 (variable_read int_type 0) (int_word by))))) ∷ [])
+    local_stmt 0 (Some (expr int_type (convert_form (uint_word 2147483648)))) ∷
+    store 0 (uint_word 1) ∷
+    store 4 (expr uint_type (convert_form (expr int_type (binary_form 15 (variable_read int_type 0) (int_word by))))) ∷ [])
 
 divides_by_zero : RunsTo (divides 0) 0 (0 ∷ 0 ∷ []) (stored 0 1 ∷ []) (Fault DivideByZero)
 unfolding source_lane words_of kinds_of

@@ -12,7 +12,8 @@ use Rattle.hl_meaning.specs.declared.program.Copying.TheVariants.{CopyBoth, Copy
 use Rattle.hl_meaning.specs.declared.program.Parameter.{Parameter}
 use Rattle.hl_meaning.specs.Types.{Ty}
 use Rattle.hl_meaning.specs.Trees.{Arg, Args, Expr, Exprs, Form, Location, MaybeExpr, MaybeLocation, PathPart, PathParts, Root, Target, a_location, an_expr, atomic_form, binary_form, build_form, bytes_target, call_form, choose_form, convert_form, element_root, index_part, intrinsic_form, literal_form, method_form, more_args, more_exprs, more_parts, no_args, no_expr, no_exprs, no_location, no_parts, pick_form, place_arg, place_target, place_type, read_form, some_expr, some_location, type_of, unary_form, value_arg, write_form}
-use Rattle.hl_source.specs.Operations.{binary_words, chosen_word, component_kind, converted, map_3, unary_word}
+use Rattle.hl_meaning.specs.Layout.{kinds_of}
+use Rattle.hl_source.specs.Operations.{binary_words, chosen_word, component_kind, converted, map_2, map_3, unary_word, word_as}
 use Rattle.hl_source.specs.State.{Callee, Context, Progress, State, after, alone, each, first_then, gives, goes_with, joined, no_value}
 use Rattle.hl_source.specs.Offsets.{picked_words, place_of, slot_of}
 use Rattle.hl_source.specs.Memory.{atomic_address, atomic_word, load_four, read_place, store_four, write_place, zeros_of}
@@ -39,10 +40,14 @@ abbrev pub starts : List (List ℕ) → List (List ℕ)
 starts (indexes ∷ start ∷ operands) = start ∷ starts operands
 starts _ = []
 
--- Behind the body the values of `out` and `inout` parameters are written back, in order of the parameters.
+-- the value of something of a type with these words, which are read as values of their kinds
+abbrev pub value_of_words : Context → Ty → List ℕ → List ℕ
+value_of_words c ty words = map_2 word_as (kinds_of c.scope.structs ty) words
+
+-- Behind the body the values of `out` and `inout` parameters are read and written back, in order of the parameters.
 abbrev pub copies_out : Context → Args → (operands parameters : List (List ℕ)) → State → Progress (List ℕ)
 copies_out c (more_args (place_arg place) rest) (indexes ∷ start ∷ operands) (words ∷ parameters) s =
-    after (write_place c place indexes words s) (λ _ s'. copies_out c rest operands parameters s')
+    after (write_place c place indexes (value_of_words c (place_type place) words) s) (λ _ s'. copies_out c rest operands parameters s')
 copies_out c (more_args (value_arg value) rest) (indexes ∷ start ∷ operands) (words ∷ parameters) s =
     copies_out c rest operands parameters s
 copies_out c _ _ _ s = goes_with [] s

@@ -1,4 +1,5 @@
 pub mod FlatTrees
 pub mod FlatViews
 pub mod FlatWellFormed
+pub mod FlatLane
 pub mod IndexedVariables

@@ -1,5 +1,5 @@
 -- What a lane of a program without calls does. Expressions have the meaning that they have in a program.
-use Rattle.std.specs.Prelude.{ℕ, zero, suc, ◌==◌, if◌then◌else◌, Bool, List, [], map, take, unwrap_or, Option, Some}
+use Rattle.std.specs.Prelude.{ℕ, zero, suc, ◌==◌, if◌then◌else◌, Bool, List, [], map, take, unwrap_or, Some}
 use Rattle.lane_core.specs.Lane.{Exchange, Lane, LaneMeaning, Run, first_exchange, standing}
 use Rattle.lane_core.specs.declared.event.Asked.TheVariants.{Ended}
 use Rattle.hl_meaning.specs.declared.program.Semantic.{Semantic}

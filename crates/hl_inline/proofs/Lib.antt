@@ -1,3 +1,6 @@
 pub mod Induction
 pub mod ProgressLemmas
 pub mod OperandLemmas
+pub mod FilledLemmas
+pub mod Relation
+pub mod Reading

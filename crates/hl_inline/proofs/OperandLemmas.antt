@@ -63,6 +63,10 @@ indexes_all c (a_location ty root parts) s =
     (after_cong (giving concat (evaluate_all c (root_exprs root) s)) _ _ (λ first s1. ap (giving (λ more. first ++ more)) (steps_all c parts s1)) ∙
     joined_all c (root_exprs root) (parts_exprs parts) s)
 
+-- the operands of an atomic operation behind its target: how many words' lists the compared value has, none or one
+abbrev pub grouped_atomic : (compared : ℕ) → (at : List ℕ) → List (List ℕ) → List (List ℕ)
+grouped_atomic compared at ws = at ∷ concat (take compared ws) ∷ concat (take 1 (drop compared ws)) ∷ concat (drop 1 (drop compared ws)) ∷ []
+
 -- how the words of the operands' expressions are grouped: the indexes of a place are one operand
 abbrev pub grouped : Form → List (List ℕ) → List (List ℕ)
 grouped (literal_form word) ws = []
@@ -70,9 +74,6 @@ grouped (read_form place) ws = concat ws ∷ []
 grouped (write_form to op common value old) ws = concat (take (length (place_exprs to)) ws) ∷ drop (length (place_exprs to)) ws
 grouped (atomic_form target kind compare value original) ws =
     grouped_atomic (length (expr_if_list compare)) (concat (take (length (target_exprs target)) ws)) (drop (length (target_exprs target)) ws)
-  where
-    grouped_atomic : ℕ → List ℕ → List (List ℕ) → List (List ℕ)
-    grouped_atomic compared at ws = at ∷ concat (take compared ws) ∷ concat (take 1 (drop compared ws)) ∷ concat (drop 1 (drop compared ws)) ∷ []
 grouped form ws = ws
 
 target_all : (c : Context) (target : Target) (s : State) → target_indexes c target s ≡ giving concat (evaluate_all c (target_exprs target) s)

@@ -1,16 +1,15 @@
 -- What the lanes of some small programs ask.
-use Rattle.std.specs.Prelude.{ℕ, List, [], ◌∷◌, true, false, Some, None, refl}
-use Rattle.lane_core.specs.declared.event.Event.TheVariants.{BufferLoad, BufferStore, SharedLoad, SharedStore}
+use Rattle.std.specs.Prelude.{ℕ, [], ◌∷◌, true, false, Some, None, refl}
+use Rattle.lane_core.specs.declared.event.Event.TheVariants.{BufferStore, SharedLoad, SharedStore}
 use Rattle.lane_core.specs.declared.event.Asked.TheVariants.{Asks, Ended, Fault, Goes}
 use Rattle.lane_core.specs.declared.event.LaneFault.TheVariants.{DivideByZero, DivideOverflow, OutOfBounds}
-use Rattle.hl_meaning.specs.declared.program.Copying.TheVariants.{CopyBoth, CopyIn, CopyOut}
-use Rattle.hl_meaning.specs.declared.program.Parameter.{Parameter}
-use Rattle.hl_meaning.specs.Types.{Ty, array_type, bool_type, uint_type, void_type}
-use Rattle.hl_meaning.specs.Trees.{Expr, Stmt, a_location, an_expr, binary_form, call_form, convert_form, for_stmt, index_part, literal_form, local_stmt, more_args, more_parts, no_args, no_parts, no_stmts, place_arg, return_stmt, run_stmt, shared_root, swizzle_part, unary_form, value_arg, variable_root, while_stmt, write_form, block_stmt}
+use Rattle.hl_meaning.specs.declared.program.Copying.TheVariants.{CopyBoth, CopyIn}
+use Rattle.hl_meaning.specs.Types.{array_type, bool_type, uint_type, void_type}
+use Rattle.hl_meaning.specs.Trees.{Stmt, a_location, binary_form, call_form, convert_form, for_stmt, index_part, literal_form, local_stmt, more_args, more_parts, no_args, no_parts, no_stmts, place_arg, return_stmt, run_stmt, shared_root, swizzle_part, value_arg, variable_root, while_stmt, write_form, block_stmt}
 use Rattle.hl_meaning.specs.Programs.{Program}
 use Rattle.hl_meaning.specs.Layout.{kinds_of, words_of}
 use Rattle.hl_source.specs.SourceLane.{source_lane}
-use Rattle.hl_source.proofs.SmallPrograms.{RunsTo, built, expr, function, int_type, int_word, kernel, load, loaded, place_read, program_with, set_place, stmts, store, store_3, stored, dst_slot, uint_word, uints, variable_read}
+use Rattle.hl_source.proofs.SmallPrograms.{RunsTo, built, expr, function, int_type, int_word, kernel, load, loaded, program_with, set_place, stmts, store, store_3, stored, dst_slot, uint_word, uints, variable_read}
 
 -- dst.Store(4, 7);
 abbrev one_store : Program

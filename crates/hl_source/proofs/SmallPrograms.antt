@@ -1,17 +1,16 @@
 -- Parts of small programs, and what their lanes ask. The programs have one writable byte-address buffer, `dst`.
-use Rattle.std.specs.Prelude.{◌≡◌, ℕ, List, [], ◌∷◌, ◌++◌, Bool, true, false, map, Option, Some, None, take}
+use Rattle.std.specs.Prelude.{◌≡◌, ℕ, List, [], ◌∷◌, true, false, map, Some, None}
 use Rattle.lane_core.specs.declared.event.Event.{Event}
 use Rattle.lane_core.specs.declared.event.Event.TheVariants.{BufferLoad, BufferStore}
 use Rattle.lane_core.specs.declared.event.Asked.{Asked}
 use Rattle.lane_core.specs.declared.event.Reply.{Reply}
 use Rattle.lane_core.specs.declared.event.Slot.{Slot}
-use Rattle.lane_core.specs.Lane.{Coordinates, Lane, Run}
-use Rattle.hl_meaning.specs.declared.ty.Kind.TheVariants.{Bool as BoolKind, Int as IntKind, Uint as UintKind}
+use Rattle.lane_core.specs.Lane.{Lane}
+use Rattle.hl_meaning.specs.declared.ty.Kind.TheVariants.{Int as IntKind, Uint as UintKind}
 use Rattle.hl_meaning.specs.declared.program.Parameter.{Parameter}
-use Rattle.hl_meaning.specs.Types.{Ty, bool_type, scalar_type, uint_type, vector_type, void_type}
-use Rattle.hl_meaning.specs.Trees.{Expr, Exprs, Form, PathParts, Root, Stmt, Stmts, a_location, an_expr, binary_form, block_stmt, build_form, literal_form, local_stmt, method_form, more_exprs, more_stmts, no_expr, no_exprs, no_parts, no_stmts, read_form, run_stmt, some_expr, variable_root, write_form}
+use Rattle.hl_meaning.specs.Types.{Ty, scalar_type, uint_type, vector_type, void_type}
+use Rattle.hl_meaning.specs.Trees.{Expr, Exprs, Form, PathParts, Root, Stmt, Stmts, a_location, an_expr, build_form, literal_form, method_form, more_exprs, more_stmts, no_expr, no_exprs, no_parts, no_stmts, read_form, run_stmt, some_expr, variable_root, write_form}
 use Rattle.hl_meaning.specs.Programs.{FunctionDef, Program, Resource, StructDef, Variable}
-use Rattle.hl_meaning.specs.Layout.{kinds_of, words_of}
 use Rattle.hl_source.specs.SourceLane.{source_lane}
 
 -- trees

@@ -3,23 +3,23 @@
 --
 -- An expression evaluates its operands in order, and then acts on their words. The first table alone says which operands
 -- a form has and in which order, and the second alone says what is done with them.
-use Rattle.std.specs.Prelude.{ℕ, Bool, if◌then◌else◌, List, [], ◌∷◌, ◌++◌, map, take, slice_get, slice_index, slice_index_or, Option, Some, None}
+use Rattle.std.specs.Prelude.{ℕ, Bool, if◌then◌else◌, List, [], ◌∷◌, map, take, slice_get, slice_index, slice_index_or, Option, Some, None}
 use Rattle.std.specs.Option.{option_map_or}
 use Rattle.std.specs.List.{concat}
 use Rattle.lane_core.specs.declared.event.AtomicKind.{AtomicKind}
 use Rattle.hl_meaning.specs.declared.program.Copying.{Copying}
-use Rattle.hl_meaning.specs.declared.program.Copying.TheVariants.{CopyBoth, CopyIn, CopyOut}
+use Rattle.hl_meaning.specs.declared.program.Copying.TheVariants.{CopyOut}
 use Rattle.hl_meaning.specs.declared.program.Parameter.{Parameter}
 use Rattle.hl_meaning.specs.Types.{Ty}
-use Rattle.hl_meaning.specs.Trees.{Arg, Args, Expr, Exprs, Form, Location, MaybeExpr, MaybeLocation, PathPart, PathParts, Root, Target, a_location, an_expr, atomic_form, binary_form, build_form, bytes_target, call_form, choose_form, convert_form, element_root, index_part, intrinsic_form, literal_form, method_form, more_args, more_exprs, more_parts, no_args, no_expr, no_exprs, no_location, no_parts, pick_form, place_arg, place_target, place_type, read_form, some_expr, some_location, type_of, unary_form, value_arg, write_form}
+use Rattle.hl_meaning.specs.Trees.{Arg, Args, Expr, Exprs, Form, Location, MaybeExpr, MaybeLocation, PathPart, PathParts, Root, Target, a_location, an_expr, atomic_form, binary_form, build_form, bytes_target, call_form, choose_form, convert_form, element_root, index_part, intrinsic_form, literal_form, method_form, more_args, more_exprs, more_parts, no_expr, no_exprs, no_location, no_parts, pick_form, place_arg, place_target, place_type, read_form, some_expr, some_location, type_of, unary_form, value_arg, write_form}
 use Rattle.hl_meaning.specs.Layout.{kinds_of}
 use Rattle.hl_source.specs.Operations.{binary_words, chosen_word, component_kind, converted, map_2, map_3, unary_word, word_as}
-use Rattle.hl_source.specs.State.{Callee, Context, Progress, State, after, alone, each, first_then, gives, goes_with, joined, no_value}
+use Rattle.hl_source.specs.State.{Callee, Context, Progress, State, after, alone, first_then, gives, goes_with, joined, no_value}
 use Rattle.hl_source.specs.Offsets.{picked_words, place_of, slot_of}
 use Rattle.hl_source.specs.Memory.{atomic_address, atomic_word, load_four, read_place, store_four, write_place, zeros_of}
 use Rattle.hl_source.specs.Intrinsics.{work_of, worked}
 
--- calls
+-- calls (HLSL, "Expressions"; the order in which values are copied is this project's own)
 
 -- the parameters of the function of a number
 abbrev pub parameters_of : Context → (function : ℕ) → List Parameter
@@ -62,7 +62,7 @@ calls c callee args operands s =
 abbrev pub no_callee : Callee
 no_callee parameters exchange = goes_with [] (record { variables = parameters; exchange = exchange })
 
--- assignments
+-- assignments (HLSL, "Expressions"; the order is this project's own)
 
 -- what is written: the value; or, with an operator, what it computes in a type from the value that the place has and the
 -- new one, converted to the type of the place
@@ -85,7 +85,7 @@ assigns c to op common old indexes words s =
     after (assigned op common (place_type to) before words s1) (λ written s2.
     after (write_place c to indexes written s2) (λ _ s3. goes_with (if old then before else written) s3)))
 
--- atomic operations
+-- atomic operations (HLSL, "Intrinsic Functions")
 
 -- the word that the target had: of the place with these indexes, or at this byte address
 abbrev pub atomic_original : Context → Target → Option AtomicKind → (indexes : List ℕ) → (compare word : ℕ) → State → Progress ℕ
@@ -99,31 +99,40 @@ abbrev pub write_if : Context → MaybeLocation → (indexes words : List ℕ) �
 write_if c no_location indexes words s = goes_with [] s
 write_if c (some_location place) indexes words s = write_place c place indexes words s
 
--- the second table: what each form does with the words of its operands
+-- The second table: what each form does with the words of its operands.
 abbrev pub acts : Context → Ty → Form → (operands : List (List ℕ)) → State → Progress (List ℕ)
+-- a literal is its word
 acts c ty (literal_form word) [] s = goes_with (word ∷ []) s
+-- a place is read
 acts c ty (read_form place) (indexes ∷ []) s = read_place c place indexes s
+-- an assignment reads for its operator alone, and then writes
 acts c ty (write_form to op common value old) (indexes ∷ words ∷ []) s = assigns c to op common old indexes words s
+-- kind and size change in one conversion
 acts c ty (convert_form value) (words ∷ []) s = goes_with (converted (type_of value) ty words) s
+-- operators work by component, in order
 acts c ty (unary_form op value) (words ∷ []) s = goes_with (map (unary_word op) words) s
 acts c ty (binary_form op left right) (words ∷ others ∷ []) s =
     gives (binary_words op (component_kind (type_of left)) words others) s
 acts c ty (choose_form cond consequent alternative) (truths ∷ words ∷ others ∷ []) s =
     goes_with (map_3 chosen_word truths words others) s
+-- a constructor or an initialiser in braces has the words of its parts, one after another
 acts c ty (build_form parts) operands s = goes_with (concat operands) s
+-- steps into a value pick among its words
 acts c ty (pick_form value parts) (words ∷ []) s =
     goes_with (picked_words c.scope.structs (type_of value) parts words) s
 acts c ty (call_form function args) operands s =
     calls c (slice_index_or c.callees function no_callee) args operands s
 acts c ty (intrinsic_form number args) operands s = worked c (work_of number) ty operands s
--- a byte address is an index with the offset 0
+-- a load or a store of a byte-address buffer is one event: the byte address is its index, and the offset is 0
 acts c ty (method_form resource count address no_expr) (at ∷ []) s =
     after (load_four (slot_of c resource) (slice_index at 0) 0 s) (λ words s'. goes_with (take count words) s')
 acts c ty (method_form resource count address (some_expr value)) (at ∷ words ∷ []) s =
     store_four (slot_of c resource) (slice_index at 0) 0 words s
+-- an atomic operation is one event, and then the original value is written where a place for it is given
 acts c ty (atomic_form target kind compare value original) (at ∷ compared ∷ words ∷ place ∷ []) s =
     after (atomic_original c target kind at (slice_index compared 0) (slice_index words 0) s)
     (λ before s'. no_value (write_if c original place (before ∷ []) s'))
+-- no form of a well-formed program has other operands
 acts c ty _ _ s = goes_with [] s
 
 abbrev mutual

@@ -1,6 +1,6 @@
 -- What the intrinsic functions do (HLSL, "Intrinsic Functions"; Shader Model 6, "Wave Intrinsics"). Vectors are worked on
 -- by component, in order.
-use Rattle.std.specs.Prelude.{ℕ, ◌==◌, if◌then◌else◌, Bool, List, [], ◌∷◌, map, slice_get, slice_index, unwrap_or, count_ones}
+use Rattle.std.specs.Prelude.{ℕ, if◌then◌else◌, Bool, List, [], ◌∷◌, map, slice_get, slice_index, unwrap_or, count_ones}
 use Rattle.std.specs.Int.{reverse_bits, w32}
 use Rattle.std.specs.List.{list_all, list_any}
 use Rattle.lane_core.specs.declared.event.Event.TheVariants.{Barrier, Wave}

@@ -1,5 +1,5 @@
 -- How places are read and written, and which events that makes. Events of places are this project's own.
-use Rattle.std.specs.Prelude.{ℕ, ◌*◌, ◌++◌, nat_lt, if◌then◌else◌, Bool, List, [], ◌∷◌, map, length, take, drop, replicate, slice_get, slice_set, unwrap_or, ok_or, zip, Option, Some, None}
+use Rattle.std.specs.Prelude.{ℕ, ◌*◌, ◌++◌, nat_lt, if◌then◌else◌, List, [], ◌∷◌, map, length, take, drop, replicate, slice_get, slice_set, unwrap_or, ok_or, zip, Option, Some, None}
 use Rattle.std.specs.Option.{option_map_or}
 use Rattle.std.specs.Int.{div_ceil}
 use Rattle.std.specs.List.{concat, range_with_len}
@@ -16,7 +16,7 @@ use Rattle.hl_meaning.specs.Places.{variable_type}
 use Rattle.hl_source.specs.Words.{wrapping_add, wrapping_mul}
 use Rattle.hl_source.specs.Operations.{map_2, picked, word_as}
 use Rattle.hl_source.specs.State.{Context, Progress, State, after, asks, asks_word, each, faults, gives, goes_with, no_value, reply_words, variable_words, with_variable}
-use Rattle.hl_source.specs.Offsets.{Holder, Place, Reached, in_constant, in_element, in_shared, in_variable, place_of}
+use Rattle.hl_source.specs.Offsets.{Holder, Reached, in_constant, in_element, in_shared, in_variable, place_of}
 
 -- the words of a constant, and how many a groupshared variable has
 

@@ -1,8 +1,8 @@
--- Where a place stands (HLSL, "Postfix Expressions": "Array Subscripts", "Vector Swizzling", "Structure Members"). The
--- offset of a place, and that it is wrapped, is this project's own.
+-- Where a place stands (HLSL, "Expressions"): its indexes, members and swizzles. The offset of a place, and that it is
+-- wrapped, are this project's own.
 use Rattle.std.specs.Prelude.{ℕ, List, [], ◌∷◌, drop, slice_get, slice_index, slice_index_or, take, unwrap_or, Option, Some, None, option_and_then}
 use Rattle.lane_core.specs.declared.event.Slot.{Slot}
-use Rattle.hl_meaning.specs.Types.{Ty, array_type, scalar_type, struct_type, vector_type, void_type}
+use Rattle.hl_meaning.specs.Types.{Ty, array_type, scalar_type, struct_type, void_type}
 use Rattle.hl_meaning.specs.Trees.{Expr, Location, PathParts, Root, a_location, an_expr, constant_root, element_root, index_part, literal_form, member_part, more_parts, no_parts, shared_root, swizzle_part, variable_root}
 use Rattle.hl_meaning.specs.Programs.{Member, StructDef}
 use Rattle.hl_meaning.specs.Layout.{words_of}

@@ -1,9 +1,6 @@
 -- What a lane of a program does: the meaning by which everything that is made of the program is judged.
-use Rattle.std.specs.Prelude.{ℕ, ◌+◌, ◌*◌, List, [], ◌∷◌, ◌++◌, map, drop, take, length, slice_get, slice_index, unwrap_or, Option, Some, None, option_map}
-use Rattle.std.specs.Option.{option_map_or}
-use Rattle.lane_core.specs.declared.event.Reply.{Reply}
+use Rattle.std.specs.Prelude.{ℕ, ◌+◌, ◌*◌, List, [], ◌∷◌, ◌++◌, map, drop, take, length, slice_get, slice_index, unwrap_or, Option, Some, None}
 use Rattle.lane_core.specs.declared.event.Asked.TheVariants.{Ended}
-use Rattle.lane_core.specs.declared.event.Slot.{Slot}
 use Rattle.lane_core.specs.Lane.{Coordinates, Exchange, Lane, LaneMeaning, Run, first_exchange, standing}
 use Rattle.hl_meaning.specs.declared.program.Parameter.{Parameter}
 use Rattle.hl_meaning.specs.declared.program.Semantic.{Semantic}
@@ -17,7 +14,7 @@ use Rattle.hl_source.specs.Words.{wrapped}
 use Rattle.hl_source.specs.Expressions.{no_callee}
 use Rattle.hl_source.specs.State.{Callee, Context, Progress, State, after, ends_at, goes_with}
 use Rattle.hl_source.specs.Memory.{zeros_of}
-use Rattle.hl_source.specs.Statements.{Leaving, at_end, by_break, by_continue, by_return, does_all}
+use Rattle.hl_source.specs.Statements.{Leaving, by_return, does_all}
 
 -- functions
 

@@ -1,5 +1,5 @@
 -- What a lane keeps while a function runs, and how a part of a run goes on or ends.
-use Rattle.std.specs.Prelude.{ℕ, ◌%◌, ◌^◌, List, [], ◌∷◌, ◌++◌, map, slice_get, slice_index, slice_set, unwrap_or, Result, Ok, Err}
+use Rattle.std.specs.Prelude.{ℕ, List, [], ◌∷◌, ◌++◌, map, slice_get, slice_index, slice_set, unwrap_or, Result, Ok, Err}
 use Rattle.std.specs.List.{range_with_len}
 use Rattle.lane_core.specs.declared.event.Event.{Event}
 use Rattle.lane_core.specs.declared.event.Reply.{Reply}
@@ -64,7 +64,7 @@ gives (Err fault) s = faults fault s
 abbrev pub asks : Event → State → Progress Reply
 asks event s = ask ends_at event s.exchange (λ reply exchange. goes_with reply (record s { exchange = exchange }))
 
--- a word of a reply, which has four words of 32 bits
+-- a word of a reply, which has four words of 32 bits (so no more of a number counts)
 abbrev pub reply_word : Reply → ℕ → ℕ
 reply_word reply place = wrapped (slice_index reply.words place)
 

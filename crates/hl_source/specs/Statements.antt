@@ -1,5 +1,5 @@
 -- What a statement does (HLSL, "Statements"; attributes have no effect).
-use Rattle.std.specs.Prelude.{ℕ, zero, suc, if◌then◌else◌, Bool, true, false, List, [], ◌∷◌, map, slice_index, Option, Some, None}
+use Rattle.std.specs.Prelude.{ℕ, zero, suc, if◌then◌else◌, Bool, true, false, List, [], map, slice_index, Option, Some, None}
 use Rattle.hl_meaning.specs.Trees.{Expr, MaybeStmt, Stmt, Stmts, block_stmt, break_stmt, continue_stmt, do_stmt, for_stmt, if_stmt, local_stmt, more_stmts, no_stmt, no_stmts, return_stmt, run_stmt, some_stmt, while_stmt}
 use Rattle.hl_source.specs.Words.{holds}
 use Rattle.hl_source.specs.State.{Context, Progress, State, after, goes_with, out_of_turns, variable_words, with_variable}

@@ -1,4 +1,5 @@
--- Arithmetic on words of 32 bits. A word is a number below 2^32; read as a signed number it is in two's complement.
+-- Arithmetic on words of 32 bits (HLSL, "Expressions"). A word is a number below 2^32; read as a signed number it is in
+-- two's complement. The faults of divisions, and that shifts mask their counts, are this project's own.
 use Rattle.std.specs.Prelude.{ℕ, ◌+◌, ◌-◌, ◌*◌, ◌/◌, ◌%◌, ◌^◌, ◌==◌, ◌&&◌, not, Bool, cond, if◌then◌else◌, ℤ, int_div, int_rem, int_lt, nat_lt, Result, Ok, Err}
 use Rattle.std.specs.Int.{bit_not, cast_signed, cast_unsigned, int_shr, trailing_zeros, w32}
 use Rattle.lane_core.specs.declared.event.LaneFault.{LaneFault}
@@ -22,7 +23,7 @@ truth b = cond b 1 0
 abbrev pub holds : ℕ → Bool
 holds word = not (word == 0)
 
--- Sums, differences and products wrap at 32 bits (HLSL, "Multiplicative Operators", "Additive Operators").
+-- Sums, differences and products wrap at 32 bits.
 abbrev pub wrapping_add : ℕ → ℕ → ℕ
 wrapping_add a b = wrapped (a + b)
 
@@ -33,7 +34,7 @@ abbrev pub wrapping_mul : ℕ → ℕ → ℕ
 wrapping_mul a b = wrapped (a * b)
 
 -- A quotient is truncated toward zero, and a remainder has the sign of the dividend. A divisor 0 is a fault, and so is
--- the quotient that no signed word holds: -2147483648 by -1, for `/` and for `%`. The faults are this project's own.
+-- the quotient that no signed word holds: -2147483648 by -1, for `/` and for `%`.
 abbrev pub unsigned_divided : (divisor result : ℕ) → Result ℕ LaneFault
 unsigned_divided divisor result = if divisor == 0 then Err DivideByZero else Ok result
 

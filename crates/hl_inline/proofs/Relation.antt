@@ -2,10 +2,12 @@
 use Rattle.std.proofs.Common.{◌≡◌, ◌∙◌, refl, sym, ap, subst, ℕ, suc, ◌+◌, ◌<◌, ◌≤◌, ◌⊎◌, inl, inr, List, [], ◌∷◌, map, length, Option, None, Some, slice_get, unwrap_or, arith}
 use Rattle.std.specs.Prelude.{slice_set}
 use Rattle.std.proofs.lemmas.List.{get_or-set_other, get_or-set_same, length-map}
+use Rattle.std.proofs.lemmas.Bool.{cases_eq}
 use Rattle.std.proofs.lemmas.Option.{unwrap_or-slice_get}
 use Rattle.std.proofs.Math.Seq.{map-set_same}
-use Rattle.hl_meaning.specs.Types.{void_type}
-use Rattle.hl_meaning.specs.Places.{Scope}
+use Rattle.std.specs.Prelude.{option_map}
+use Rattle.hl_meaning.specs.Types.{Ty, void_type}
+use Rattle.hl_meaning.specs.Places.{Scope, variable_type}
 use Rattle.hl_meaning.specs.Programs.{Variable}
 use Rattle.hl_meaning.specs.Layout.{words_of}
 use Rattle.hl_source.specs.State.{Context, Progress, State, after, each, ends_at, goes_with, variable_words, with_variable}
@@ -91,3 +93,48 @@ sizes_set n ws s e = map-set_same length s.variables n ws [] (e ∙ ap length (u
 -- as many variables as there are sizes
 pub count_by_sizes : (c : Context) (V : List Variable) (s : State) → sizes_at s ≡ sizes_in c V → length s.variables ≡ length V
 count_by_sizes c V s e = sym (length-map s.variables length) ∙ (ap length e ∙ length-map V (λ v. words_of c.scope.structs v.ty))
+
+-- what makes an instance of a function stand among the variables of a program without calls: its variables and the
+-- constants have their types, and there is room
+pub record Stands (c : Context) (V : List Variable) (first : ℕ) : Type 0 where
+  pub own : (v : ℕ) (t : Ty) → variable_type c.scope.variables v ≡ Some t → variable_type V (first + v) ≡ Some t
+  pub constant : (k : ℕ) (t : Ty) → option_map (λ d. d.variable.ty) (slice_get c.scope.constants k) ≡ Some t → variable_type V k ≡ Some t
+  pub below : length c.scope.constants ≤ first
+  pub room : first + length c.scope.variables ≤ length V
+
+-- a variable of the function is set in both states to as many words as it has
+pub related_set : (c : Context) (V : List Variable) (first : ℕ) (D E : ℕ → Type 0) (v : ℕ) (ws : List ℕ) (s t : State) → Stands c V first → Related c V first D s t →
+    v < length c.scope.variables → ((u : ℕ) → E u → D u ⊎ (u ≡ v)) → length ws ≡ length (variable_words s v) → length ws ≡ length (variable_words t (first + v)) →
+    Related c V first E (with_variable v ws s) (with_variable (first + v) ws t)
+related_set c V first D E v ws s t stands r low among e e' = record {
+  exchange = r.exchange;
+  sizes = sizes_set v ws s e ∙ r.sizes;
+  flat_sizes = sizes_set (first + v) ws t e' ∙ r.flat_sizes;
+  same = λ u is_e. by_case u (among u is_e) (cases_eq u v);
+  constants = λ k is_k. words_set_other (first + v) k ws t (λ is. omega (arith, is, is_k, stands.below)) ∙ r.constants k is_k;
+}
+  where
+    source_low : v < length s.variables
+    source_low = omega (arith, low, count_by_sizes c c.scope.variables s r.sizes)
+    flat_low : first + v < length t.variables
+    flat_low = omega (arith, low, stands.room, count_by_sizes c V t r.flat_sizes)
+    set_both : (u : ℕ) → u ≡ v → variable_words (with_variable (first + v) ws t) (first + u) ≡ variable_words (with_variable v ws s) u
+    set_both u is =
+        subst (λ w. variable_words (with_variable (first + v) ws t) (first + w) ≡ variable_words (with_variable v ws s) w) (sym is)
+        (words_set_same (first + v) ws t flat_low ∙ sym (words_set_same v ws s source_low))
+    by_case : (u : ℕ) → D u ⊎ (u ≡ v) → (u ≡ v) ⊎ (u ≡ v → ⊥) → variable_words (with_variable (first + v) ws t) (first + u) ≡ variable_words (with_variable v ws s) u
+    by_case u among (inl is) = set_both u is
+    by_case u (inr is) (inr apart) = set_both u is
+    by_case u (inl d) (inr apart) =
+        words_set_other (first + v) (first + u) ws t (λ is. apart (omega (arith, is))) ∙ (r.same u d ∙ sym (words_set_other v u ws s apart))
+
+-- the variables outside are as they were
+pub outside_set : (first size v : ℕ) (ws : List ℕ) (t : State) → v < size → KeepsAll first size t (with_variable (first + v) ws t)
+outside_set first size v ws t low w outside = words_set_other (first + v) w ws t (λ is. apart outside is)
+  where
+    apart : IsOutside first size w → w ≡ first + v → ⊥
+    apart (inl below) is = omega (arith, below, is)
+    apart (inr above) is = omega (arith, above, is, low)
+
+pub keeps_all_trans : (first size : ℕ) (t u v : State) → KeepsAll first size t u → KeepsAll first size u v → KeepsAll first size t v
+keeps_all_trans first size t u v k l w outside = l w outside ∙ k w outside

@@ -4,3 +4,4 @@ pub mod OperandLemmas
 pub mod FilledLemmas
 pub mod Relation
 pub mod Reading
+pub mod Acts

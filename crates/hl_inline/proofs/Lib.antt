@@ -5,3 +5,4 @@ pub mod FilledLemmas
 pub mod Relation
 pub mod Reading
 pub mod Acts
+pub mod FittingWords

@@ -6,3 +6,5 @@ pub mod Relation
 pub mod Reading
 pub mod Acts
 pub mod FittingWords
+pub mod Performing
+pub mod Emission

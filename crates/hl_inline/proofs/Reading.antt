@@ -125,7 +125,7 @@ module _ (c : Context) (V : List Variable) (first : ℕ) (D : ℕ → Type 0) (u
   pub alike_read_words : (holder : Holder) → HolderIn c D holder → (offset count : ℕ) (s t : State) → Acting c V first D u s t →
       Alike (Acting c V first D u) (read_words c holder offset count s) (read_words (flat_of_context c V) (moved first holder) offset count t)
   alike_read_words (in_variable number) there offset count s t r =
-      subst (λ ws. Alike (Acting c V first D u) (each (word_of (variable_words s number)) (word_offsets offset count) s) (each (word_of ws) (word_offsets offset count) t)) (sym (r.0.same number there.0))
+      subst (λ ws. Alike (Acting c V first D u) (each (word_of (variable_words s number)) (word_offsets offset count) s) (each (word_of ws) (word_offsets offset count) t)) (sym (r.0.same number there.1 there.0))
       (alike_words_of (Acting c V first D u) follows (variable_words s number) (word_offsets offset count) s t r)
   alike_read_words (in_constant number) there offset count s t r =
       subst (λ ws. Alike (Acting c V first D u) (each (word_of (constant_words c number)) (word_offsets offset count) s) (each (word_of ws) (word_offsets offset count) t)) (sym (r.0.constants number there))
@@ -140,7 +140,7 @@ module _ (c : Context) (V : List Variable) (first : ℕ) (D : ℕ → Type 0) (u
       subst (λ n. Alike (Acting c V first D u) (write_variable_word v offset word s) ((if nat_lt offset n then go_flat else faults OutOfBounds) t)) (sym (ap length same)) (by_test (nat_lt offset (length (variable_words s v))))
     where
       same : variable_words t (first + v) ≡ variable_words s v
-      same = r.0.same v d
+      same = r.0.same v low d
       go_flat : State → Progress (List ℕ)
       go_flat s' = goes_with [] (with_variable (first + v) (slice_set (variable_words s' (first + v)) offset word) s')
       after_source : State
@@ -186,7 +186,7 @@ IsChangedRoot _ = Unit {0}
 abbrev pub IsChangedPlace : Location → Type 0
 IsChangedPlace (a_location ty root parts) = IsChangedRoot root
 
-there_by_map : {A B : Type 0} (f : A → B) (xs : List A) (k : ℕ) (b : B) → option_map f (slice_get xs k) ≡ Some b → k < length xs
+pub there_by_map : {A B : Type 0} (f : A → B) (xs : List A) (k : ℕ) (b : B) → option_map f (slice_get xs k) ≡ Some b → k < length xs
 there_by_map f xs k b e = by_option (slice_get xs k) refl e
   where
     by_option : (o : Option _) → slice_get xs k ≡ o → option_map f o ≡ Some b → k < length xs

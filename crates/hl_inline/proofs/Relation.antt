@@ -43,7 +43,7 @@ pub record Related (c : Context) (V : List Variable) (first : ℕ) (D : ℕ → 
   pub exchange : s.exchange ≡ t.exchange
   pub sizes : sizes_at s ≡ sizes_in c c.scope.variables
   pub flat_sizes : sizes_at t ≡ sizes_in c V
-  pub same : (v : ℕ) → D v → variable_words t (first + v) ≡ variable_words s v
+  pub same : (v : ℕ) → v < length c.scope.variables → D v → variable_words t (first + v) ≡ variable_words s v
   pub constants : (k : ℕ) → k < length c.scope.constants → variable_words t k ≡ constant_words c k
 
 -- a variable that isn't one of the function
@@ -110,7 +110,7 @@ related_set c V first D E v ws s t stands r low among e e' = record {
   exchange = r.exchange;
   sizes = sizes_set v ws s e ∙ r.sizes;
   flat_sizes = sizes_set (first + v) ws t e' ∙ r.flat_sizes;
-  same = λ u is_e. by_case u (among u is_e) (cases_eq u v);
+  same = λ u here is_e. by_case u here (among u is_e) (cases_eq u v);
   constants = λ k is_k. words_set_other (first + v) k ws t (λ is. omega (arith, is, is_k, stands.below)) ∙ r.constants k is_k;
 }
   where
@@ -122,11 +122,11 @@ related_set c V first D E v ws s t stands r low among e e' = record {
     set_both u is =
         subst (λ w. variable_words (with_variable (first + v) ws t) (first + w) ≡ variable_words (with_variable v ws s) w) (sym is)
         (words_set_same (first + v) ws t flat_low ∙ sym (words_set_same v ws s source_low))
-    by_case : (u : ℕ) → D u ⊎ (u ≡ v) → (u ≡ v) ⊎ (u ≡ v → ⊥) → variable_words (with_variable (first + v) ws t) (first + u) ≡ variable_words (with_variable v ws s) u
-    by_case u among (inl is) = set_both u is
-    by_case u (inr is) (inr apart) = set_both u is
-    by_case u (inl d) (inr apart) =
-        words_set_other (first + v) (first + u) ws t (λ is. apart (omega (arith, is))) ∙ (r.same u d ∙ sym (words_set_other v u ws s apart))
+    by_case : (u : ℕ) → u < length c.scope.variables → D u ⊎ (u ≡ v) → (u ≡ v) ⊎ (u ≡ v → ⊥) → variable_words (with_variable (first + v) ws t) (first + u) ≡ variable_words (with_variable v ws s) u
+    by_case u here among (inl is) = set_both u is
+    by_case u here (inr is) (inr apart) = set_both u is
+    by_case u here (inl d) (inr apart) =
+        words_set_other (first + v) (first + u) ws t (λ is. apart (omega (arith, is))) ∙ (r.same u here d ∙ sym (words_set_other v u ws s apart))
 
 -- the variables outside are as they were
 pub outside_set : (first size v : ℕ) (ws : List ℕ) (t : State) → v < size → KeepsAll first size t (with_variable (first + v) ws t)

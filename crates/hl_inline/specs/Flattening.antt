@@ -136,7 +136,7 @@ values_with x rest = record { code = x.code ++ rest.code; values = x.value ∷ r
 abbrev pub emit_all : (further : Bool) → List Emitter → Fresh → Values
 emit_all further [] fresh = record { code = []; values = []; fresh = fresh }
 emit_all further (e ∷ es) fresh =
-    let x = settled (any_calls es || further) (e.emit fresh) in values_with x (emit_all further es x.fresh)
+    let x = settled (further || any_calls es) (e.emit fresh) in values_with x (emit_all further es x.fresh)
 
 abbrev pub is_literal_form : Form → Bool
 is_literal_form (literal_form word) = true

@@ -274,3 +274,99 @@ module _ (c : Context) (V : List Variable) (first : ℕ) (stands : Stands c V fi
               (first_then p (evaluate_all c es)) (perform f lane n (emit_all true (map em (e ∷ es)) fresh).code t)
       by_first next (goes_with a s1) (t1, code, stay) = by_rest a s1 t1 code stay (evaluate_all c es s1) (next s1 t1 stay.0.0)
       by_first next (ends_at run) code = perform_ends f lane n x.code y.code t run code
+
+  -- a later operand that stays, or no code behind an operand
+
+  -- what the operands from one on become, where the first is settled or not
+  abbrev pub from_one_on : (further : Bool) → Valued → List Emitter → Values
+  from_one_on further x es = values_with (settled further x) (emit_all false es (settled further x).fresh)
+
+  same_end : (t u : State) → goes_with flat_end t ≡ goes_with flat_end u → t ≡ u
+  same_end t u e = cc
+
+  no_end : (t : State) (run : Run) → goes_with flat_end t ≡ ends_at run → ⊥
+  no_end t run e = cc
+
+  module _ (D : ℕ → Type 0) (x : Valued) (y : Values) (below : ℕ) (low : below ≤ next_of x.fresh) (t : State) (rest : State → Progress (List (List ℕ))) where
+    -- the first stays while the code of the others runs
+    opens_stayed : (a : List ℕ) (t1 : State) → perform f lane n x.code t ≡ goes_with flat_end t1 → Keeps first (length c.scope.variables) below t t1 →
+        ((v : State) → Keeps first (length c.scope.variables) (next_of x.fresh) t1 v → evaluates (flat_of_context c V) x.value v ≡ goes_with a v) → (p : Progress (List (List ℕ))) →
+        Opens (Keeps first (length c.scope.variables) (next_of x.fresh) t1) (Later c V first D (next_of x.fresh) t1) p (perform f lane n y.code t1) (evaluate_all (flat_of_context c V) y.values) →
+        Opens (Keeps first (length c.scope.variables) below t) (Later c V first D below t) (giving (λ r. a ∷ r) p) (perform f lane n (x.code ++ y.code) t) (evaluate_all (flat_of_context c V) (x.value ∷ y.values))
+    opens_stayed a t1 code keep stay (goes_with as_rest s2) (t2, code2, m2, (u, is, later)) =
+        (t2, perform_next f lane n x.code y.code t t1 code ∙ code2, keeps_trans first (length c.scope.variables) below (next_of x.fresh) t t1 t2 low keep m2,
+        (u, ap (λ p. first_then p (evaluate_all (flat_of_context c V) y.values)) (stay t2 m2) ∙ ap (giving (λ r. a ∷ r)) is,
+        (later.0, keeps_trans first (length c.scope.variables) below (next_of x.fresh) t t1 u low keep later.1)))
+    opens_stayed a t1 code keep stay (ends_at run) (inl code2) = inl (perform_next f lane n x.code y.code t t1 code ∙ code2)
+    opens_stayed a t1 code keep stay (ends_at run) (inr (t2, code2, m2, is)) =
+        inr (t2, perform_next f lane n x.code y.code t t1 code ∙ code2, keeps_trans first (length c.scope.variables) below (next_of x.fresh) t t1 t2 low keep m2,
+        ap (λ p. first_then p (evaluate_all (flat_of_context c V) y.values)) (stay t2 m2) ∙ ap (giving (λ r. a ∷ r)) is)
+
+    -- the others have no code
+    opens_quiet : y.code ≡ [] → (a : List ℕ) (t1 u : State) → perform f lane n x.code t ≡ goes_with flat_end t1 → Keeps first (length c.scope.variables) below t t1 →
+        evaluates (flat_of_context c V) x.value t1 ≡ goes_with a u → Keeps first (length c.scope.variables) below t u → (p : Progress (List (List ℕ))) →
+        Opens (Keeps first (length c.scope.variables) (next_of x.fresh) u) (Later c V first D (next_of x.fresh) u) p (perform f lane n y.code u) (evaluate_all (flat_of_context c V) y.values) →
+        Opens (Keeps first (length c.scope.variables) below t) (Later c V first D below t) (giving (λ r. a ∷ r) p) (perform f lane n (x.code ++ y.code) t) (evaluate_all (flat_of_context c V) (x.value ∷ y.values))
+    opens_quiet quiet a t1 u code keep is keep_u p opens =
+        by_part p (subst (λ l. Opens (Keeps first (length c.scope.variables) (next_of x.fresh) u) (Later c V first D (next_of x.fresh) u) p (perform f lane n l u) (evaluate_all (flat_of_context c V) y.values)) quiet opens)
+      where
+        whole : perform f lane n (x.code ++ y.code) t ≡ goes_with flat_end t1
+        whole = ap (λ l. perform f lane n (x.code ++ l) t) quiet ∙ (ap (λ l. perform f lane n l t) (append-nil x.code) ∙ code)
+        by_part : (p : Progress (List (List ℕ))) → Opens (Keeps first (length c.scope.variables) (next_of x.fresh) u) (Later c V first D (next_of x.fresh) u) p (goes_with flat_end u) (evaluate_all (flat_of_context c V) y.values) →
+            Opens (Keeps first (length c.scope.variables) below t) (Later c V first D below t) (giving (λ r. a ∷ r) p) (perform f lane n (x.code ++ y.code) t) (evaluate_all (flat_of_context c V) (x.value ∷ y.values))
+        by_part (goes_with as_rest s2) (t2, e2, m2, (u2, is2, later2)) =
+            (t1, whole, keep, (u2, ap (λ p. first_then p (evaluate_all (flat_of_context c V) y.values)) is ∙ ap (giving (λ r. a ∷ r)) (ap (evaluate_all (flat_of_context c V) y.values) (same_end u t2 e2) ∙ is2),
+            (later2.0, keeps_trans first (length c.scope.variables) below (next_of x.fresh) t u u2 low keep_u later2.1)))
+        by_part (ends_at run) (inl e) = absurd (no_end u run e)
+        by_part (ends_at run) (inr (t2, e2, m2, is2)) =
+            inr (t1, whole, keep, ap (λ p. first_then p (evaluate_all (flat_of_context c V) y.values)) is ∙ ap (giving (λ r. a ∷ r)) (ap (evaluate_all (flat_of_context c V) y.values) (same_end u t2 e2) ∙ is2))
+
+    -- after the first operand, which stays or not
+    stayed_first : (p : Progress (List ℕ)) → Runs (Stays c V first D below (next_of x.fresh) t (evaluates (flat_of_context c V) x.value)) p (perform f lane n x.code t) →
+        ((s1 t1 : State) → Related c V first D s1 t1 →
+            Opens (Keeps first (length c.scope.variables) (next_of x.fresh) t1) (Later c V first D (next_of x.fresh) t1) (rest s1) (perform f lane n y.code t1) (evaluate_all (flat_of_context c V) y.values)) →
+        Opens (Keeps first (length c.scope.variables) below t) (Later c V first D below t) (first_then p rest) (perform f lane n (x.code ++ y.code) t) (evaluate_all (flat_of_context c V) (x.value ∷ y.values))
+    stayed_first (goes_with a s1) (t1, code, stay) next = opens_stayed a t1 code stay.0.1 stay.1 (rest s1) (next s1 t1 stay.0.0)
+    stayed_first (ends_at run) code next = inl (perform_ends f lane n x.code y.code t run code)
+
+    quiet_first : y.code ≡ [] → (p : Progress (List ℕ)) → Opens (Keeps first (length c.scope.variables) below t) (Later c V first D below t) p (perform f lane n x.code t) (evaluates (flat_of_context c V) x.value) →
+        ((s1 t1 : State) → Related c V first D s1 t1 →
+            Opens (Keeps first (length c.scope.variables) (next_of x.fresh) t1) (Later c V first D (next_of x.fresh) t1) (rest s1) (perform f lane n y.code t1) (evaluate_all (flat_of_context c V) y.values)) →
+        Opens (Keeps first (length c.scope.variables) below t) (Later c V first D below t) (first_then p rest) (perform f lane n (x.code ++ y.code) t) (evaluate_all (flat_of_context c V) (x.value ∷ y.values))
+    quiet_first quiet (goes_with a s1) (t1, code, m, (u, is, later)) next = opens_quiet quiet a t1 u code m is later.1 (rest s1) (next s1 u later.0)
+    quiet_first quiet (ends_at run) (inl code) next = inl (perform_ends f lane n x.code y.code t run code)
+    quiet_first quiet (ends_at run) (inr (t1, code, m, is)) next =
+        inr (t1, ap (λ l. perform f lane n (x.code ++ l) t) quiet ∙ (ap (λ l. perform f lane n l t) (append-nil x.code) ∙ code), m, ap (λ p. first_then p (evaluate_all (flat_of_context c V) y.values)) is)
+
+  pub all_open : (D : ℕ → Type 0) (em : Expr → Emitter) (es : List Expr) → Every (λ e. Emits D e (em e)) es → Every (HasValue c) es → (fresh : Fresh) →
+      HasRoom fresh (emit_all false (map em es) fresh).fresh → (s t : State) → Related c V first D s t →
+      Opens (Keeps first (length c.scope.variables) (next_of fresh) t) (Later c V first D (next_of fresh) t) (evaluate_all c es s) (perform f lane n (emit_all false (map em es) fresh).code t)
+          (evaluate_all (flat_of_context c V) (emit_all false (map em es) fresh).values)
+  all_open D em [] emits value fresh room s t r =
+      (t, refl, keeps_refl first (length c.scope.variables) (next_of fresh) t, (t, refl, (r, keeps_refl first (length c.scope.variables) (next_of fresh) t)))
+  all_open D em (e ∷ es) emits value fresh room s t r =
+      by_calls (any_calls (map em es)) refl room (λ fresh' room' s1 t1 r1. all_open D em es emits.1 value.1 fresh' room' s1 t1 r1)
+    where
+      by_calls : (b : Bool) → any_calls (map em es) ≡ b → HasRoom fresh (from_one_on b ((em e).emit fresh) (map em es)).fresh →
+          ((fresh' : Fresh) → HasRoom fresh' (emit_all false (map em es) fresh').fresh → (s1 t1 : State) → Related c V first D s1 t1 →
+              Opens (Keeps first (length c.scope.variables) (next_of fresh') t1) (Later c V first D (next_of fresh') t1) (evaluate_all c es s1) (perform f lane n (emit_all false (map em es) fresh').code t1)
+                  (evaluate_all (flat_of_context c V) (emit_all false (map em es) fresh').values)) →
+          Opens (Keeps first (length c.scope.variables) (next_of fresh) t) (Later c V first D (next_of fresh) t) (evaluate_all c (e ∷ es) s) (perform f lane n (from_one_on b ((em e).emit fresh) (map em es)).code t)
+              (evaluate_all (flat_of_context c V) (from_one_on b ((em e).emit fresh) (map em es)).values)
+      by_calls true calls room next =
+          let x : Valued = settled true ((em e).emit fresh) in
+          let y : Values = emit_all false (map em es) x.fresh in
+          let grown : IsFront x.fresh.variables y.fresh.variables = all_grow D em es emits.1 false x.fresh in
+          let low : next_of fresh ≤ next_of x.fresh =
+          front_length fresh.variables x.fresh.variables (front_trans fresh.variables ((em e).emit fresh).fresh.variables x.fresh.variables (emits.0.grows fresh) (settled_grows true ((em e).emit fresh))) in
+          stayed_first D x y (next_of fresh) low t (evaluate_all c es) (evaluates c e s)
+              (settling D e (em e) emits.0 value.0 fresh (room.0, front_trans x.fresh.variables y.fresh.variables V grown room.1) s t r)
+              (next x.fresh (omega (arith, room.0, low), room.1))
+      by_calls false calls room next =
+          let x : Valued = (em e).emit fresh in
+          let y : Values = emit_all false (map em es) x.fresh in
+          let grown : IsFront x.fresh.variables y.fresh.variables = all_grow D em es emits.1 false x.fresh in
+          let low : next_of fresh ≤ next_of x.fresh = front_length fresh.variables x.fresh.variables (emits.0.grows fresh) in
+          quiet_first D x y (next_of fresh) low t (evaluate_all c es) (all_quiet D em es emits.1 calls x.fresh) (evaluates c e s)
+              (emits.0.opens fresh (room.0, front_trans x.fresh.variables y.fresh.variables V grown room.1) s t r)
+              (next x.fresh (omega (arith, room.0, low), room.1))

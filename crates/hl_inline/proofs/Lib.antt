@@ -8,3 +8,4 @@ pub mod Acts
 pub mod FittingWords
 pub mod Performing
 pub mod Emission
+pub mod Nodes

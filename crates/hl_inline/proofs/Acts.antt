@@ -51,7 +51,7 @@ first_type (x ∷ es) value rest e = head_is e
     head_is : type_of x ∷ map type_of es ≡ type_of value ∷ map type_of rest → type_of x ≡ type_of value
     head_is e = cc
 
-place_type_filled : (first : ℕ) (place : Location) (es : List Expr) → place_type (filled_place first place es) ≡ place_type place
+pub place_type_filled : (first : ℕ) (place : Location) (es : List Expr) → place_type (filled_place first place es) ≡ place_type place
 place_type_filled first (a_location ty root parts) es = refl
 
 module _ (R : State → State → Type 0) (follow : Follow R) where

@@ -24,7 +24,7 @@ use Rattle.hl_inline.proofs.OperandLemmas.{evaluate_all}
 use Rattle.hl_inline.proofs.Relation.{IsOutside, Keeps, Related, Stands, count_by_sizes, flat_of_context, sizes_at, sizes_in, sizes_set, words_set_other, words_set_same}
 use Rattle.hl_inline.proofs.Reading.{there_by_map}
 use Rattle.hl_inline.proofs.FittingWords.{Fits, fits_length, reading_gives}
-use Rattle.hl_inline.proofs.Performing.{Opens, Runs, perform, perform_append, perform_ends, perform_next, perform_one}
+use Rattle.hl_inline.proofs.Performing.{Opens, Runs, Yields, perform, perform_append, perform_ends, perform_next, perform_one}
 
 -- fronts of lists of variables
 
@@ -65,11 +65,6 @@ variable_size c V t w ty sizes typed =
     by_words None e = absurd (none-some (words_of c.scope.structs ty) e)
     by_words (Some ws) e = same_Some (length ws) (words_of c.scope.structs ty) e
 
--- what is given by a part, if it gives something
-abbrev pub Yields : {A : Type 0} → (A → Type 0) → Progress A → Type 0
-Yields P (goes_with a s) = P a
-Yields P (ends_at run) = Unit {0}
-
 pub keeps_less : (first size below more : ℕ) (t u : State) → below ≤ more → Keeps first size more t u → Keeps first size below t u
 keeps_less first size below more t u low keeps w lower outside = keeps w (omega (arith, low, lower)) outside
 
@@ -94,10 +89,24 @@ related_set_other c V first D w ws s t below r high e = record {
 abbrev pub Later : Context → List Variable → (first : ℕ) → (D : ℕ → Type 0) → (below : ℕ) → State → State → State → Type 0
 Later c V first D below t s u = Related c V first D s u × Keeps first (length c.scope.variables) below t u
 
--- the same, and an evaluation gives the same value as long as the variables below a number are kept
+-- the variables from a number on, below another, are as they were
+abbrev pub KeepsFrom : (from below : ℕ) → State → State → Type 0
+KeepsFrom from below t u = (w : ℕ) → from ≤ w → w < below → variable_words u w ≡ variable_words t w
+
+pub keeps_from : (first size from below : ℕ) (t u : State) → first + size ≤ from → Keeps first size below t u → KeepsFrom from below t u
+keeps_from first size from below t u room keep w above lower = keep w lower (inr (omega (arith, room, above)))
+
+pub keeps_from_trans : (from middle below : ℕ) (t u v : State) → middle ≤ below → KeepsFrom from middle t u → KeepsFrom from below u v → KeepsFrom from middle t v
+keeps_from_trans from middle below t u v low k l w above lower = l w above (omega (arith, low, lower)) ∙ k w above lower
+
+pub keeps_from_more : (from middle below : ℕ) (t u : State) → from ≤ middle → KeepsFrom from below t u → KeepsFrom middle below t u
+keeps_from_more from middle below t u low k w above lower = k w (omega (arith, low, above)) lower
+
+-- The same, and an evaluation gives the same value as long as the variables are kept that are new since then: those from
+-- a number on, below another.
 abbrev pub Stays : {A : Type 0} → Context → List Variable → (first : ℕ) → (D : ℕ → Type 0) → (below more : ℕ) → State → (State → Progress A) → A → State → State → Type 0
 Stays c V first D below more t value a s u =
-    Later c V first D below t s u × ((v : State) → Keeps first (length c.scope.variables) more u v → value v ≡ goes_with a v)
+    Later c V first D below t s u × ((v : State) → KeepsFrom below more u v → value v ≡ goes_with a v)
 
 -- What a value of an expression is: words of its type, of which there aren't too many.
 pub record HasValue (c : Context) (e : Expr) : Type 0 where
@@ -122,6 +131,7 @@ module _ (c : Context) (V : List Variable) (first : ℕ) (stands : Stands c V fi
   -- what becomes of an expression
   pub record Emits (D : ℕ → Type 0) (e : Expr) (em : Emitter) : Type 0 where
     pub grows : (fresh : Fresh) → IsFront fresh.variables (em.emit fresh).fresh.variables
+    pub names : (fresh : Fresh) → fresh.names ≤ (em.emit fresh).fresh.names
     pub typed : (fresh : Fresh) → type_of (em.emit fresh).value ≡ type_of e
     pub quiet : em.calls ≡ false → (fresh : Fresh) → (em.emit fresh).code ≡ []
     pub opens : (fresh : Fresh) → HasRoom fresh (em.emit fresh).fresh → OpensAs D e fresh (em.emit fresh)
@@ -160,11 +170,11 @@ module _ (c : Context) (V : List Variable) (first : ℕ) (stands : Stands c V fi
       keeps w lower outside = words_set_other (next_of x.fresh) w a u (λ is. omega (arith, is, lower, low)) ∙ later.1 w lower outside
       has : variable_words (with_variable (next_of x.fresh) a u) (next_of x.fresh) ≡ a
       has = words_set_same (next_of x.fresh) a u (subst (λ k. next_of x.fresh < k) (sym (count_by_sizes c V u later.0.flat_sizes)) (type_there V (next_of x.fresh) (type_of x.value) there))
-      stays : (v : State) → Keeps first (length c.scope.variables) (next_of (saved x).fresh) (with_variable (next_of x.fresh) a u) v →
+      stays : (v : State) → KeepsFrom below (next_of (saved x).fresh) (with_variable (next_of x.fresh) a u) v →
           evaluates (flat_of_context c V) (saved x).value v ≡ goes_with a v
       stays v keep =
           reading_gives c V (type_of x.value) (token_of x.value) (next_of x.fresh) a v there fitting (subst (λ ty. words_of c.scope.structs ty ≤ most_words) (sym typed) value.small)
-              (keep (next_of x.fresh) (omega (arith, length-append x.fresh.variables (unnamed (type_of x.value) (token_of x.value) ∷ []))) (inr room) ∙ has)
+              (keep (next_of x.fresh) low (omega (arith, length-append x.fresh.variables (unnamed (type_of x.value) (token_of x.value) ∷ []))) ∙ has)
   saving D e x below typed value room low front t (ends_at run) (inl code) fits = perform_ends f lane n x.code _ t run code
   saving D e x below typed value room low front t (ends_at run) (inr (t1, code, m, is)) fits =
       perform_next f lane n x.code _ t t1 code ∙ declares_ends (next_of x.fresh) x.value t1 run is
@@ -175,6 +185,13 @@ module _ (c : Context) (V : List Variable) (first : ℕ) (stands : Stands c V fi
       by_test : (b : Bool) → IsFront x.fresh.variables (if b then saved x else x).fresh.variables
       by_test true = front_more x.fresh.variables (unnamed (type_of x.value) (token_of x.value) ∷ [])
       by_test false = front_refl x.fresh.variables
+
+  settled_names : (further : Bool) (x : Valued) → (settled further x).fresh.names ≡ x.fresh.names
+  settled_names further x = by_test (further && not x.fixed)
+    where
+      by_test : (b : Bool) → (if b then saved x else x).fresh.names ≡ x.fresh.names
+      by_test true = refl
+      by_test false = refl
 
   settled_typed : (further : Bool) (x : Valued) → type_of (settled further x).value ≡ type_of x.value
   settled_typed further x = by_test (further && not x.fixed)
@@ -196,6 +213,19 @@ module _ (c : Context) (V : List Variable) (first : ℕ) (stands : Stands c V fi
           saving D e (em.emit fresh) (next_of fresh) (emits.typed fresh) value (omega (arith, room.0, low)) low room.1 t (evaluates c e s)
           (emits.opens fresh (room.0, front_trans (em.emit fresh).fresh.variables (saved (em.emit fresh)).fresh.variables V (front_more (em.emit fresh).fresh.variables _) room.1) s t r) (value.fits s)
 
+  -- a value is put into a variable behind those of the function
+  pub storing : (D : ℕ → Type 0) (w : ℕ) (ty : Ty) (code : List FlatStmt) (value : Expr) (below : ℕ) → first + length c.scope.variables ≤ w → variable_type V w ≡ Some ty → (t : State) (p : Progress (List ℕ)) →
+      Opens (Keeps first (length c.scope.variables) below t) (Later c V first D below t) p (perform f lane n code t) (evaluates (flat_of_context c V) value) → Yields (λ a. length a ≡ words_of c.scope.structs ty) p →
+      Runs (λ a s u. Related c V first D s u × (variable_words u w ≡ a) × ((v : ℕ) → v < below → IsOutside first (length c.scope.variables) v → (v ≡ w → ⊥) → variable_words u v ≡ variable_words t v)) p
+          (perform f lane n (code ++ flat_local w (Some value) ∷ []) t)
+  storing D w ty code value below high typed t (goes_with a s) (t1, coded, m, (u, is, later)) long =
+      (with_variable w a u, perform_next f lane n code _ t t1 coded ∙ declares_goes w value a t1 u is,
+      (related_set_other c V first D w a s u stands.below later.0 high (long ∙ sym (variable_size c V u w ty later.0.flat_sizes typed)),
+      words_set_same w a u (subst (λ k. w < k) (sym (count_by_sizes c V u later.0.flat_sizes)) (type_there V w ty typed)),
+      λ v lower outside apart. words_set_other w v a u apart ∙ later.1 v lower outside))
+  storing D w ty code value below high typed t (ends_at run) (inl coded) long = perform_ends f lane n code _ t run coded
+  storing D w ty code value below high typed t (ends_at run) (inr (t1, coded, m, is)) long = perform_next f lane n code _ t t1 coded ∙ declares_ends w value t1 run is
+
   -- operands in order
 
   pub all_grow : (D : ℕ → Type 0) (em : Expr → Emitter) (es : List Expr) → Every (λ e. Emits D e (em e)) es → (further : Bool) (fresh : Fresh) →
@@ -206,6 +236,12 @@ module _ (c : Context) (V : List Variable) (first : ℕ) (stands : Stands c V fi
       (front_trans ((em e).emit fresh).fresh.variables (settled (further || any_calls (map em es)) ((em e).emit fresh)).fresh.variables _
           (settled_grows (further || any_calls (map em es)) ((em e).emit fresh))
           (all_grow D em es emits.1 further (settled (further || any_calls (map em es)) ((em e).emit fresh)).fresh))
+
+  pub all_names : (D : ℕ → Type 0) (em : Expr → Emitter) (es : List Expr) → Every (λ e. Emits D e (em e)) es → (further : Bool) (fresh : Fresh) →
+      fresh.names ≤ (emit_all further (map em es) fresh).fresh.names
+  all_names D em [] emits further fresh = omega arith
+  all_names D em (e ∷ es) emits further fresh =
+      omega (arith, emits.0.names fresh, settled_names (further || any_calls (map em es)) ((em e).emit fresh), all_names D em es emits.1 further (settled (further || any_calls (map em es)) ((em e).emit fresh)).fresh)
 
   pub all_typed : (D : ℕ → Type 0) (em : Expr → Emitter) (es : List Expr) → Every (λ e. Emits D e (em e)) es → (further : Bool) (fresh : Fresh) →
       map type_of (emit_all further (map em es) fresh).values ≡ map type_of es
@@ -260,8 +296,9 @@ module _ (c : Context) (V : List Variable) (first : ℕ) (stands : Stands c V fi
           (t2, perform_next f lane n x.code y.code t t1 code ∙ code2,
           ((later2.0, keeps_trans first (length c.scope.variables) (next_of fresh) (next_of x.fresh) t t1 t2 low stay.0.1 later2.1),
           λ v keep.
-              ap (λ p. first_then p (evaluate_all (flat_of_context c V) y.values)) (stay.1 v (keeps_trans first (length c.scope.variables) (next_of x.fresh) (next_of y.fresh) t1 t2 v lower later2.1 keep)) ∙
-              ap (giving (λ r. a ∷ r)) (stay2 v keep)))
+              ap (λ p. first_then p (evaluate_all (flat_of_context c V) y.values)) (stay.1 v (keeps_from_trans (next_of fresh) (next_of x.fresh) (next_of y.fresh) t1 t2 v lower
+                  (keeps_from first (length c.scope.variables) (next_of fresh) (next_of x.fresh) t1 t2 room.0 later2.1) keep)) ∙
+              ap (giving (λ r. a ∷ r)) (stay2 v (keeps_from_more (next_of fresh) (next_of x.fresh) (next_of y.fresh) t2 v low keep))))
       by_rest a s1 t1 code stay (ends_at run) code2 = perform_next f lane n x.code y.code t t1 code ∙ code2
       by_first : ((s1 t1 : State) → Related c V first D s1 t1 →
               Runs (Stays c V first D (next_of (settled true ((em e).emit fresh)).fresh) (next_of (emit_all true (map em es) (settled true ((em e).emit fresh)).fresh).fresh) t1
@@ -287,20 +324,20 @@ module _ (c : Context) (V : List Variable) (first : ℕ) (stands : Stands c V fi
   no_end : (t : State) (run : Run) → goes_with flat_end t ≡ ends_at run → ⊥
   no_end t run e = cc
 
-  module _ (D : ℕ → Type 0) (x : Valued) (y : Values) (below : ℕ) (low : below ≤ next_of x.fresh) (t : State) (rest : State → Progress (List (List ℕ))) where
+  module _ (D : ℕ → Type 0) (x : Valued) (y : Values) (below : ℕ) (room : first + length c.scope.variables ≤ below) (low : below ≤ next_of x.fresh) (t : State) (rest : State → Progress (List (List ℕ))) where
     -- the first stays while the code of the others runs
     opens_stayed : (a : List ℕ) (t1 : State) → perform f lane n x.code t ≡ goes_with flat_end t1 → Keeps first (length c.scope.variables) below t t1 →
-        ((v : State) → Keeps first (length c.scope.variables) (next_of x.fresh) t1 v → evaluates (flat_of_context c V) x.value v ≡ goes_with a v) → (p : Progress (List (List ℕ))) →
+        ((v : State) → KeepsFrom below (next_of x.fresh) t1 v → evaluates (flat_of_context c V) x.value v ≡ goes_with a v) → (p : Progress (List (List ℕ))) →
         Opens (Keeps first (length c.scope.variables) (next_of x.fresh) t1) (Later c V first D (next_of x.fresh) t1) p (perform f lane n y.code t1) (evaluate_all (flat_of_context c V) y.values) →
         Opens (Keeps first (length c.scope.variables) below t) (Later c V first D below t) (giving (λ r. a ∷ r) p) (perform f lane n (x.code ++ y.code) t) (evaluate_all (flat_of_context c V) (x.value ∷ y.values))
     opens_stayed a t1 code keep stay (goes_with as_rest s2) (t2, code2, m2, (u, is, later)) =
         (t2, perform_next f lane n x.code y.code t t1 code ∙ code2, keeps_trans first (length c.scope.variables) below (next_of x.fresh) t t1 t2 low keep m2,
-        (u, ap (λ p. first_then p (evaluate_all (flat_of_context c V) y.values)) (stay t2 m2) ∙ ap (giving (λ r. a ∷ r)) is,
+        (u, ap (λ p. first_then p (evaluate_all (flat_of_context c V) y.values)) (stay t2 (keeps_from first (length c.scope.variables) below (next_of x.fresh) t1 t2 room m2)) ∙ ap (giving (λ r. a ∷ r)) is,
         (later.0, keeps_trans first (length c.scope.variables) below (next_of x.fresh) t t1 u low keep later.1)))
     opens_stayed a t1 code keep stay (ends_at run) (inl code2) = inl (perform_next f lane n x.code y.code t t1 code ∙ code2)
     opens_stayed a t1 code keep stay (ends_at run) (inr (t2, code2, m2, is)) =
         inr (t2, perform_next f lane n x.code y.code t t1 code ∙ code2, keeps_trans first (length c.scope.variables) below (next_of x.fresh) t t1 t2 low keep m2,
-        ap (λ p. first_then p (evaluate_all (flat_of_context c V) y.values)) (stay t2 m2) ∙ ap (giving (λ r. a ∷ r)) is)
+        ap (λ p. first_then p (evaluate_all (flat_of_context c V) y.values)) (stay t2 (keeps_from first (length c.scope.variables) below (next_of x.fresh) t1 t2 room m2)) ∙ ap (giving (λ r. a ∷ r)) is)
 
     -- the others have no code
     opens_quiet : y.code ≡ [] → (a : List ℕ) (t1 u : State) → perform f lane n x.code t ≡ goes_with flat_end t1 → Keeps first (length c.scope.variables) below t t1 →
@@ -359,7 +396,7 @@ module _ (c : Context) (V : List Variable) (first : ℕ) (stands : Stands c V fi
           let grown : IsFront x.fresh.variables y.fresh.variables = all_grow D em es emits.1 false x.fresh in
           let low : next_of fresh ≤ next_of x.fresh =
           front_length fresh.variables x.fresh.variables (front_trans fresh.variables ((em e).emit fresh).fresh.variables x.fresh.variables (emits.0.grows fresh) (settled_grows true ((em e).emit fresh))) in
-          stayed_first D x y (next_of fresh) low t (evaluate_all c es) (evaluates c e s)
+          stayed_first D x y (next_of fresh) room.0 low t (evaluate_all c es) (evaluates c e s)
               (settling D e (em e) emits.0 value.0 fresh (room.0, front_trans x.fresh.variables y.fresh.variables V grown room.1) s t r)
               (next x.fresh (omega (arith, room.0, low), room.1))
       by_calls false calls room next =
@@ -367,6 +404,6 @@ module _ (c : Context) (V : List Variable) (first : ℕ) (stands : Stands c V fi
           let y : Values = emit_all false (map em es) x.fresh in
           let grown : IsFront x.fresh.variables y.fresh.variables = all_grow D em es emits.1 false x.fresh in
           let low : next_of fresh ≤ next_of x.fresh = front_length fresh.variables x.fresh.variables (emits.0.grows fresh) in
-          quiet_first D x y (next_of fresh) low t (evaluate_all c es) (all_quiet D em es emits.1 calls x.fresh) (evaluates c e s)
+          quiet_first D x y (next_of fresh) room.0 low t (evaluate_all c es) (all_quiet D em es emits.1 calls x.fresh) (evaluates c e s)
               (emits.0.opens fresh (room.0, front_trans x.fresh.variables y.fresh.variables V grown room.1) s t r)
               (next x.fresh (omega (arith, room.0, low), room.1))

@@ -84,15 +84,21 @@ words_from before (w ∷ ws) u low =
 pub whole_words : (ws : List ℕ) (u : State) → length ws < 2 ^ 32 → each (word_of ws) (word_offsets 0 (length ws)) u ≡ goes_with ws u
 whole_words ws u low = words_from [] ws u (omega (arith, low))
 
+-- a variable of a type is read as a value of the type
+pub reading_words : (c : Context) (V : List Variable) (ty : Ty) (at number : ℕ) (ws : List ℕ) (u : State) → variable_type V number ≡ Some ty → length ws ≡ words_of c.scope.structs ty →
+    words_of c.scope.structs ty ≤ most_words → variable_words u number ≡ ws →
+    evaluates (flat_of_context c V) (reading ty at number) u ≡ goes_with (map_2 word_as (kinds_of c.scope.structs ty) ws) u
+reading_words c V ty at number ws u typed long low is =
+    ap (λ o. read_reached (flat_of_context c V) (in_variable number) (start_of (unwrap_or o void_type)) u) typed ∙
+    (ap (λ w. giving (whole ty) (each (word_of w) (word_offsets 0 (words_of c.scope.structs ty)) u)) is ∙
+    (ap (λ n. giving (whole ty) (each (word_of ws) (word_offsets 0 n) u)) (sym long) ∙
+    ap (giving (whole ty)) (whole_words ws u (omega (arith, low, long)))))
+  where
+    whole : Ty → List ℕ → List ℕ
+    whole t words = picked [] (map_2 word_as (kinds_of c.scope.structs t) words)
+
 -- a variable that holds words of its type is read as them
 pub reading_gives : (c : Context) (V : List Variable) (ty : Ty) (at number : ℕ) (ws : List ℕ) (u : State) → variable_type V number ≡ Some ty → Fits c.scope.structs ty ws →
     words_of c.scope.structs ty ≤ most_words → variable_words u number ≡ ws → evaluates (flat_of_context c V) (reading ty at number) u ≡ goes_with ws u
 reading_gives c V ty at number ws u typed fits low is =
-    ap (λ o. read_reached (flat_of_context c V) (in_variable number) (start_of (unwrap_or o void_type)) u) typed ∙
-    (ap (λ w. giving (whole ty) (each (word_of w) (word_offsets 0 (words_of c.scope.structs ty)) u)) is ∙
-    (ap (λ n. giving (whole ty) (each (word_of ws) (word_offsets 0 n) u)) (sym (fits_length c.scope.structs ty ws fits)) ∙
-    (ap (giving (whole ty)) (whole_words ws u (omega (arith, low, fits_length c.scope.structs ty ws fits))) ∙
-    ap (λ w. goes_with w u) (kinds_same (kinds_of c.scope.structs ty) ws fits))))
-  where
-    whole : Ty → List ℕ → List ℕ
-    whole t words = picked [] (map_2 word_as (kinds_of c.scope.structs t) words)
+    reading_words c V ty at number ws u typed (fits_length c.scope.structs ty ws fits) low is ∙ ap (λ w. goes_with w u) (kinds_same (kinds_of c.scope.structs ty) ws fits)

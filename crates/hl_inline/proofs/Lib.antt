@@ -9,3 +9,4 @@ pub mod FittingWords
 pub mod Performing
 pub mod Emission
 pub mod Nodes
+pub mod Passing

@@ -20,7 +20,7 @@ use Rattle.hl_inline.proofs.Relation.{Alike, Keeps, KeepsAll, Related, Stands, f
 use Rattle.hl_inline.proofs.Reading.{Acting}
 use Rattle.hl_inline.proofs.Acts.{FormIn, SameTypes, alike_acts}
 use Rattle.hl_inline.proofs.Performing.{Opens, Runs, alike_map, opens_same, opens_then, perform}
-use Rattle.hl_inline.proofs.Emission.{ClosesAs, Emits, HasRoom, HasValue, Later, OpensAs, all_grow, all_open, all_quiet, all_typed, keeps_refl}
+use Rattle.hl_inline.proofs.Emission.{ClosesAs, Emits, HasRoom, HasValue, Later, OpensAs, all_grow, all_names, all_open, all_quiet, all_typed, keeps_refl}
 
 module _ (c : Context) (V : List Variable) (first : ℕ) (stands : Stands c V first) (f : Flat) (lane : Lane) (n : ℕ) (known : flat_context f lane ≡ flat_of_context c V) where
   -- a form evaluates its operands in order, and then acts
@@ -86,6 +86,7 @@ module _ (c : Context) (V : List Variable) (first : ℕ) (stands : Stands c V fi
       Emits c V first stands f lane n known D (an_expr ty at form) (node i ty at form (map em (operand_exprs form)))
   node_emits D i ty at form em is plain inside emits value = record {
     grows = λ fresh. all_grow c V first stands f lane n known D em (operand_exprs form) emits false fresh;
+    names = λ fresh. all_names c V first stands f lane n known D em (operand_exprs form) emits false fresh;
     typed = λ fresh. refl;
     quiet = λ none fresh. all_quiet c V first stands f lane n known D em (operand_exprs form) emits none fresh;
     opens = λ fresh room. node_opens D i ty at form em is plain inside emits value fresh room;

@@ -49,6 +49,11 @@ module _ (f : Flat) (lane : Lane) (n : ℕ) where
   pub perform_ends : (xs ys : List FlatStmt) (s : State) (run : Run) → perform f lane n xs s ≡ ends_at run → perform f lane n (xs ++ ys) s ≡ ends_at run
   perform_ends xs ys s run e = perform_append xs ys s ∙ ap (λ p. after p (then_flat (perform f lane n ys))) e
 
+-- what is given by a part, if it gives something
+abbrev pub Yields : {A : Type 0} → (A → Type 0) → Progress A → Type 0
+Yields P (goes_with a s) = P a
+Yields P (ends_at run) = Unit {0}
+
 -- A part of a program, and code that does the same: both end alike, or the code comes to its end in a state that is
 -- related by what the part gives.
 abbrev pub Runs : {A : Type 0} → (A → State → State → Type 0) → Progress A → Progress FlatLeaving → Type 0
@@ -85,3 +90,19 @@ opens_map M R S (ends_at run) q k h o = o
 pub alike_map : {A : Type 0} (R S : State → State → Type 0) → ((s t : State) → R s t → S s t) → (p q : Progress A) → Alike R p q → Alike S p q
 alike_map R S h (goes_with a s) q (t, e, r) = (t, e, h s t r)
 alike_map R S h (ends_at run) q e = e
+
+-- what else is known of what is given
+pub runs_with : {A : Type 0} (R : A → State → State → Type 0) (P : A → Type 0) (p : Progress A) (q : Progress FlatLeaving) → Runs R p q → Yields P p → Runs (λ a s t. R a s t × P a) p q
+runs_with R P (goes_with a s) q (t, e, r) y = (t, e, (r, y))
+runs_with R P (ends_at run) q e y = e
+
+pub runs_map : {A : Type 0} (R S : A → State → State → Type 0) → ((a : A) (s t : State) → R a s t → S a s t) → (p : Progress A) (q : Progress FlatLeaving) → Runs R p q → Runs S p q
+runs_map R S h (goes_with a s) q (t, e, r) = (t, e, h a s t r)
+runs_map R S h (ends_at run) q e = e
+
+-- a part and code, and then a part and code
+pub runs_then : {A B : Type 0} (f : Flat) (lane : Lane) (n : ℕ) (R : A → State → State → Type 0) (S : B → State → State → Type 0) (xs ys : List FlatStmt) (t : State) (p : Progress A) (g : A → State → Progress B) →
+    Runs R p (perform f lane n xs t) → ((a : A) (s u : State) → R a s u → Runs S (g a s) (perform f lane n ys u)) → Runs S (after p g) (perform f lane n (xs ++ ys) t)
+runs_then f lane n R S xs ys t (goes_with a s) g (u, e, r) next =
+    subst (λ q. Runs S (g a s) q) (sym (perform_next f lane n xs ys t u e)) (next a s u r)
+runs_then f lane n R S xs ys t (ends_at run) g e next = perform_ends f lane n xs ys t run e

@@ -10,3 +10,8 @@ pub mod Performing
 pub mod Emission
 pub mod Nodes
 pub mod Passing
+pub mod Calls
+pub mod Typed
+pub mod Covered
+pub mod Expressions
+pub mod KindParts

@@ -1,0 +1,17 @@
+pub mod Induction
+pub mod ProgressLemmas
+pub mod OperandLemmas
+pub mod FilledLemmas
+pub mod Relation
+pub mod Reading
+pub mod Acts
+pub mod FittingWords
+pub mod Performing
+pub mod Emission
+pub mod Nodes
+pub mod Passing
+pub mod Calls
+pub mod Typed
+pub mod Covered
+pub mod Expressions
+pub mod KindParts

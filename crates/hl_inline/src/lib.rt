@@ -1,0 +1,6 @@
+//! Programs without calls.
+#![tactic(auto)]
+
+mod flat;
+
+pub use flat::{Flat, FlatStmt, FlatStmts};

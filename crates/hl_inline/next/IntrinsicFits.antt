@@ -12,7 +12,7 @@ use Rattle.hl_meaning.specs.Types.{Ty, array_type, bool_type, component_count, i
 use Rattle.hl_meaning.specs.Intrinsics.{HasSignature, HasSignatureOf, Intrinsic, TakesAndGives, intrinsics, signature_of}
 use Rattle.hl_meaning.specs.Programs.{StructDef}
 use Rattle.hl_meaning.specs.Layout.{kinds_of}
-use Rattle.hl_source.specs.Words.{truth}
+use Rattle.lane_core.specs.Words.{truth}
 use Rattle.hl_source.specs.Operations.{component_kind, map_2, map_3, word_as}
 use Rattle.hl_source.specs.State.{Context, Progress, State, after, asks, asks_word, each, first_then, goes_with, no_value, reply_words}
 use Rattle.hl_source.specs.Intrinsics.{Work, barrier, from_all, from_one, from_three, from_two, of_lane, own_form, wave, wave_alone, wave_at, wave_four, wave_word, wave_words, work_of, worked, works}

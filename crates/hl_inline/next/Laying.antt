@@ -11,7 +11,7 @@ use Rattle.hl_meaning.specs.Places.{Scope, variable_type}
 use Rattle.hl_meaning.specs.Programs.{FunctionDef, Variable}
 use Rattle.hl_meaning.specs.Layout.{words_of}
 use Rattle.hl_meaning.specs.WellFormed.{AreStmts, IsCondition, IsConditionIf, IsExpr, IsExprIf, IsLocal, IsPlace, IsReturn, IsStmt, IsStmtIf, callee_params}
-use Rattle.hl_source.specs.Words.{holds}
+use Rattle.lane_core.specs.Words.{holds}
 use Rattle.hl_source.specs.State.{Context, Progress, State, after, goes_with, variable_words, with_variable}
 use Rattle.hl_source.specs.Statements.{Doing, Leaving, at_end, by_break, by_return, choice, computes, computes_if, condition, condition_if, declares, does, does_all, does_if, leaves, returns, tested_turn, testing_turn, then_next, then_turn, turns}
 use Rattle.hl_source.specs.Expressions.{evaluates}

@@ -13,7 +13,7 @@ use Rattle.hl_meaning.specs.Layout.{kinds_of, words_of}
 use Rattle.hl_meaning.specs.Places.{has_literal_indexes, is_end, is_index_within, is_literal, is_longer_swizzle, member_type, part_type, path_type, swizzle_type}
 use Rattle.hl_meaning.specs.WellFormed.{most_words}
 use Rattle.hl_meaning.proofs.LayoutLemmas.{words-scalar}
-use Rattle.hl_source.specs.Words.{wrapping_add, wrapping_mul}
+use Rattle.lane_core.specs.Words.{wrapping_add, wrapping_mul}
 use Rattle.hl_source.specs.Operations.{component_kind}
 use Rattle.hl_source.specs.Offsets.{Reached, at_index, at_member, at_swizzle, element_of, further, literal_indexes, literal_word, member_of, reached, start_of}
 use Rattle.hl_inline.proofs.KindParts.{AreStructs, PartOf, kinds-scalar, kinds-vector, part_component, part_element, part_further, part_member, part_within, replicate_at}

@@ -22,7 +22,7 @@ use Rattle.hl_meaning.specs.Places.{Scope, has_literal_indexes, path_type, root_
 use Rattle.hl_meaning.specs.WellFormed.{Assigns, IsDeclared, IsExpr, IsForm, IsLiteralOf, IsMethod, IsPlace, IsResult, IsType, callee_params, callee_result, most_words}
 use Rattle.hl_meaning.proofs.LayoutForms.{length-kinds_of}
 use Rattle.hl_meaning.proofs.LayoutLemmas.{words-void}
-use Rattle.hl_source.specs.Words.{holds, truth}
+use Rattle.lane_core.specs.Words.{holds, truth}
 use Rattle.hl_source.specs.Operations.{binary_words, component_kind, converted, map_2, picked, resized, word_as}
 use Rattle.hl_source.specs.State.{Callee, Context, Progress, State, after, asks, each, ends_at, first_then, gives, goes_with, no_value, reply_words}
 use Rattle.hl_source.specs.Offsets.{Holder, Reached, in_constant, in_element, in_shared, in_variable, indexes_of_steps, literal_indexes, picked_at, picked_words, place_of, reached, start_of, type_of_root}

@@ -12,7 +12,7 @@ use Rattle.hl_meaning.specs.Places.{Scope, variable_type}
 use Rattle.hl_meaning.specs.Programs.{FunctionDef, Variable}
 use Rattle.hl_meaning.specs.Layout.{words_of}
 use Rattle.hl_meaning.specs.WellFormed.{AreStmts, IsExpr, IsPlace, IsStmt, IsStmtIf, callee_params}
-use Rattle.hl_source.specs.Words.{holds}
+use Rattle.lane_core.specs.Words.{holds}
 use Rattle.hl_source.specs.State.{Context, Progress, State, after, ends_at, goes_with, out_of_turns, variable_words, with_variable}
 use Rattle.hl_source.specs.Statements.{Doing, Leaving, at_end, by_break, by_continue, by_return, choice, computes, computes_if, condition, condition_if, declares, does, does_all, does_if, leaves, returns, tested_turn, testing_turn, then_loop, then_next, then_turn, turns}
 use Rattle.hl_source.specs.Expressions.{evaluates}

@@ -19,7 +19,7 @@ use Rattle.hl_meaning.specs.Intrinsics.{HasSignature, HasSignatureOf, Intrinsic,
 use Rattle.hl_meaning.specs.Programs.{StructDef}
 use Rattle.hl_meaning.specs.Layout.{kinds_of}
 use Rattle.hl_meaning.specs.WellFormed.{Builds}
-use Rattle.hl_source.specs.Words.{holds, truth}
+use Rattle.lane_core.specs.Words.{holds, truth}
 use Rattle.hl_source.specs.Operations.{all_ok, binary_word, binary_words, chosen_word, component_kind, converted, map_2, map_3, resized, unary_word, word_as}
 use Rattle.hl_source.specs.State.{Context, Progress, State, after, asks, asks_word, each, ends_at, first_then, gives, goes_with, no_value}
 use Rattle.hl_source.specs.Intrinsics.{Work, barrier, from_all, from_one, from_three, from_two, of_lane, own_form, wave, wave_alone, wave_at, wave_four, wave_word, wave_words, work_of, worked, works}

@@ -10,7 +10,7 @@ use Rattle.hl_meaning.specs.declared.ty.Kind.{Kind}
 use Rattle.hl_meaning.specs.Types.{Ty}
 use Rattle.hl_meaning.specs.Trees.{Expr, Form, Location, MaybeExpr, MaybeLocation, Target, a_location, an_expr, atomic_form, binary_form, build_form, bytes_target, call_form, choose_form, convert_form, intrinsic_form, literal_form, method_form, no_expr, no_location, pick_form, place_target, place_type, read_form, some_expr, some_location, type_of, unary_form, write_form}
 use Rattle.hl_meaning.specs.Programs.{Variable}
-use Rattle.hl_source.specs.Words.{wrapped}
+use Rattle.lane_core.specs.Words.{wrapped}
 use Rattle.hl_source.specs.Operations.{binary_words, chosen_word, component_kind, converted, map_3, unary_word}
 use Rattle.hl_source.specs.State.{Context, Progress, State, after, asks, each, faults, gives, goes_with, no_value, reply_word, reply_words}
 use Rattle.hl_source.specs.Offsets.{picked_words, place_of, slot_of}

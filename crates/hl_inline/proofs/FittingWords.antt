@@ -14,7 +14,7 @@ use Rattle.hl_meaning.specs.Programs.{StructDef, Variable}
 use Rattle.hl_meaning.specs.Layout.{kinds_of, words_of}
 use Rattle.hl_meaning.specs.WellFormed.{most_words}
 use Rattle.hl_meaning.proofs.LayoutForms.{get-next, length-kinds_of}
-use Rattle.hl_source.specs.Words.{holds, truth, wrapped, wrapping_add}
+use Rattle.lane_core.specs.Words.{holds, truth, wrapped, wrapping_add}
 use Rattle.hl_source.specs.Operations.{map_2, picked, word_as}
 use Rattle.hl_source.specs.State.{Context, Progress, State, after, each, first_then, gives, goes_with, variable_words}
 use Rattle.hl_source.specs.Offsets.{Reached, in_variable, start_of}

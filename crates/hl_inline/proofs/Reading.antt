@@ -18,7 +18,7 @@ use Rattle.hl_meaning.specs.Places.{Scope, root_type, variable_type}
 use Rattle.hl_meaning.specs.Programs.{StructDef, Variable}
 use Rattle.hl_meaning.specs.Layout.{kinds_of, words_of}
 use Rattle.hl_source.specs.Operations.{map_2, picked, word_as}
-use Rattle.hl_source.specs.Words.{wrapping_add}
+use Rattle.lane_core.specs.Words.{wrapping_add}
 use Rattle.hl_source.specs.State.{Context, Progress, State, after, asks, asks_word, each, ends_at, faults, gives, goes_with, no_value, reply_word, reply_words, variable_words, with_variable}
 use Rattle.hl_source.specs.Offsets.{Holder, Place, Reached, at_index, at_member, at_swizzle, holder_of, in_constant, in_element, in_shared, in_variable, member_of, place_of, reached, start_of, indexes_of_steps, type_of_root}
 use Rattle.hl_source.specs.Memory.{atomic_address, atomic_word, byte_offset, cell, constant_words, load_four, load_words, pieces, read_place, read_reached, read_words, shared_size, store_four, store_words, within, word_of, word_offsets, write_letters, write_place, write_variable_word, write_words}

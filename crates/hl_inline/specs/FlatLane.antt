@@ -6,7 +6,7 @@ use Rattle.hl_meaning.specs.declared.program.Semantic.{Semantic}
 use Rattle.hl_meaning.specs.Types.{component_count, void_type}
 use Rattle.hl_meaning.specs.Places.{variable_type}
 use Rattle.hl_meaning.specs.Slots.{slots_of}
-use Rattle.hl_source.specs.Words.{wrapped}
+use Rattle.lane_core.specs.Words.{wrapped}
 use Rattle.hl_source.specs.State.{Context, Progress, State, after, ends_at, goes_with, out_of_turns, with_variable}
 use Rattle.hl_source.specs.Memory.{zeros_of}
 use Rattle.hl_source.specs.Expressions.{evaluates}

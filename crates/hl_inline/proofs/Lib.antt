@@ -15,3 +15,12 @@ pub mod Typed
 pub mod Covered
 pub mod Expressions
 pub mod KindParts
+pub mod EarlyLemmas
+pub mod Statements
+pub mod Growth
+pub mod FirstStates
+pub mod Leaving
+pub mod Laying
+pub mod Beginnings
+pub mod Functions
+pub mod Whole

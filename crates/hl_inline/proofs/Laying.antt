@@ -1,6 +1,6 @@
 -- What becomes of each statement of a function does what the statement does.
 use Rattle.std.proofs.Common.{◌≡◌, ◌∙◌, refl, sym, ap, subst, ℕ, zero, suc, ◌+◌, ◌<◌, ◌≤◌, ◌⊎◌, inl, inr, Bool, true, false, List, [], ◌∷◌, ◌++◌, map, length, Option, None, Some, slice_get, arith}
-use Rattle.std.specs.Prelude.{if◌then◌else◌, IsTrue, option_map, slice_index}
+use Rattle.std.specs.Prelude.{if◌then◌else◌, IsTrue, not, option_map, slice_index}
 use Rattle.std.proofs.lemmas.List.{append_assoc, append-nil, length-map}
 use Rattle.std.proofs.lemmas.Bool.{true≢false}
 use Rattle.std.proofs.lemmas.Option.{none-some, same_Some, slice_get-get_or}
@@ -12,7 +12,7 @@ use Rattle.hl_meaning.specs.Programs.{FunctionDef, Variable}
 use Rattle.hl_meaning.specs.Layout.{words_of}
 use Rattle.hl_meaning.specs.WellFormed.{AreStmts, IsCondition, IsConditionIf, IsExpr, IsExprIf, IsLocal, IsPlace, IsReturn, IsStmt, IsStmtIf, callee_params}
 use Rattle.lane_core.specs.Words.{holds}
-use Rattle.hl_source.specs.State.{Context, Progress, State, after, goes_with, variable_words, with_variable}
+use Rattle.hl_source.specs.State.{Context, Progress, State, after, ends_at, goes_with, variable_words, with_variable}
 use Rattle.hl_source.specs.Statements.{Doing, Leaving, at_end, by_break, by_return, choice, computes, computes_if, condition, condition_if, declares, does, does_all, does_if, leaves, returns, tested_turn, testing_turn, then_next, then_turn, turns}
 use Rattle.hl_source.specs.Expressions.{evaluates}
 use Rattle.hl_inline.specs.FlatTrees.{Flat, FlatStmt, MaybeFlatStmt, flat_block, flat_if, flat_leave, flat_local, flat_loop, flat_named, flat_run, no_flat_stmts, some_flat_stmt}
@@ -30,7 +30,8 @@ use Rattle.hl_inline.proofs.FittingWords.{Fits, fits_length}
 use Rattle.hl_inline.proofs.Performing.{Opens, Runs, Yields, perform, perform_ends, perform_next, perform_one}
 use Rattle.hl_inline.proofs.Emission.{Emits, HasRoom, HasValue, IsFront, Later, front_length, front_more, front_refl, front_trans, related_set_other, type_there, variable_size}
 use Rattle.hl_inline.proofs.Passing.{HasPlaceValue, args_by, args_emitters_all}
-use Rattle.hl_inline.proofs.Calls.{CallReady, CalledAs, Inlines, call_called, call_grows, call_names}
+use Rattle.hl_inline.proofs.Calls.{CallReady, CalledAs, call_called}
+use Rattle.hl_inline.proofs.Growth.{BodyGrows, Grows, grows_trans, loop_grows, maybe_grows, run_if_grows, stmt_grows, stmts_grow, test_if_grows, value_grows}
 use Rattle.hl_inline.proofs.ValueFits.{yields_any}
 use Rattle.hl_inline.proofs.Typed.{IsSome, IsValue, ParamsSome}
 use Rattle.hl_inline.proofs.Covered.{Covers, CoversExpr}
@@ -55,7 +56,7 @@ zeros_alike (x ∷ xs) [] e = absurd (omega (arith, e))
 zeros_alike (x ∷ xs) (y ∷ ys) e = ap (λ l. 0 ∷ l) (zeros_alike xs ys (omega (arith, e)))
 
 -- a variable that is there has a type
-type_at : (V : List Variable) (v : ℕ) → v < length V → (ty : Ty) × (variable_type V v ≡ Some ty)
+pub type_at : (V : List Variable) (v : ℕ) → v < length V → (ty : Ty) × (variable_type V v ≡ Some ty)
 type_at [] v low = absurd (omega (arith, low))
 type_at (x ∷ V) zero low = (x.ty, refl)
 type_at (x ∷ V) (suc v) low = type_at V v (omega (arith, low))
@@ -65,7 +66,7 @@ source_size : (c : Context) (s : State) (v : ℕ) (ty : Ty) → sizes_at s ≡ s
 source_size c s v ty sizes typed = variable_size c c.scope.variables s v ty sizes typed
 
 module _ (c : Context) (V : List Variable) (first : ℕ) (stands : Stands c V first) (f : Flat) (lane : Lane) (n : ℕ) (known : flat_context f lane ≡ flat_of_context c V) (k : List Inlined) (i : Instance) (is : i.first ≡ first)
-    (callees : (function : ℕ) (d : FunctionDef) → slice_get c.scope.functions function ≡ Some d → CalleeIn c V f lane n function d (inlined_at k function)) (some_params : (function : ℕ) → ParamsSome (callee_params (slice_get c.scope.functions function)))
+    (bodies : (function : ℕ) → BodyGrows (inlined_at k function)) (callees : (function : ℕ) (d : FunctionDef) → slice_get c.scope.functions function ≡ Some d → CalleeIn c V f lane n function d (inlined_at k function)) (some_params : (function : ℕ) → ParamsSome (callee_params (slice_get c.scope.functions function)))
     (sound : (e : Expr) → IsExpr c.scope e → HasValue c e) (place_sound : (place : Location) → IsPlace c.scope place → HasPlaceValue c place)
     (local_type : (v : ℕ) (ty : Ty) → variable_type c.scope.variables v ≡ Some ty → IsSome ty)
     (count : ℕ) (large : length c.scope.variables ≤ count) (result_place : is_void c.scope.result ≡ false → (first + length c.scope.variables ≤ i.result) × (i.result < first + count)) (result_type : is_void c.scope.result ≡ false → variable_type V i.result ≡ Some c.scope.result) where
@@ -162,30 +163,7 @@ module _ (c : Context) (V : List Variable) (first : ℕ) (stands : Stands c V fi
       HasPlace fresh laid.fresh → (s t : State) → Related c V first (Known before) s t →
       DoesAs exit break_to continue_to (AfterAs behind (next_of fresh) t) (AfterAs before (next_of fresh) t) (AfterAs before (next_of fresh) t) ReturnedAs (doing s) (perform f lane n laid.code t)
 
-  -- what is free only grows
-  abbrev pub Grows : (fresh after : Fresh) → Type 0
-  Grows fresh after = IsFront fresh.variables after.variables × (fresh.names ≤ after.names)
-
-  grows_refl : (fresh : Fresh) → Grows fresh fresh
-  grows_refl fresh = (front_refl fresh.variables, omega arith)
-
-  grows_trans : (a b d : Fresh) → Grows a b → Grows b d → Grows a d
-  grows_trans a b d g h = (front_trans a.variables b.variables d.variables g.0 h.0, omega (arith, g.1, h.1))
-
   -- expressions as statements
-
-  run_grows_plain : (numbers : List ℕ) (value : Expr) → Emits c V first stands f lane n known (Known numbers) value (emitter k i value) → (fresh : Fresh) → Grows fresh (emitted k i value fresh).fresh
-  run_grows_plain numbers value em fresh = (em.grows fresh, em.names fresh)
-
-  run_call_grows : (numbers : List ℕ) (ty : Ty) (at function : ℕ) (args : Args) → IsExpr c.scope (an_expr ty at (call_form function args)) → CoversExpr (Known numbers) (an_expr ty at (call_form function args)) → (fresh : Fresh) →
-      Grows fresh (emitted k i (an_expr ty at (call_form function args)) fresh).fresh
-  run_call_grows numbers ty at function args h covers fresh =
-      let ready : CallReady c V first stands f lane n known (Known numbers) (emitter k i) function ty args (inlined_at k function) =
-      call_ready c V first stands f lane n known k i is callees some_params sound place_sound (Known numbers) ty function args h.1
-          (operands_emitted c V first stands f lane n known k i is callees some_params sound place_sound (Known numbers) (call_form function args)) covers in
-      subst (λ l. Grows fresh ((call i ty at (inlined_at k function) l).emit fresh).fresh) (sym (args_emitters_all k i args))
-          (call_grows c V first stands f lane n known (Known numbers) (emitter k i) i is ty at function args (inlined_at k function) ready fresh ready.args_ready,
-          call_names c V first stands f lane n known (Known numbers) (emitter k i) i is ty at function args (inlined_at k function) ready fresh)
 
   emits_form : (numbers : List ℕ) (ty : Ty) (at : ℕ) (form : Form) → is_call_form form ≡ false → IsExpr c.scope (an_expr ty at form) → CoversExpr (Known numbers) (an_expr ty at form) →
       Emits c V first stands f lane n known (Known numbers) (an_expr ty at form) (emitter k i (an_expr ty at form))
@@ -196,11 +174,6 @@ module _ (c : Context) (V : List Variable) (first : ℕ) (stands : Stands c V fi
   plain_laid exit break_to continue_to numbers ty at form plain h covers fresh =
       subst (λ b. LaidAs exit break_to continue_to numbers numbers (computes c (an_expr ty at form)) (run_of b (emitted k i (an_expr ty at form) fresh)) fresh) (sym (call_form_is ty at form ∙ plain))
       (λ room s t r. plain_run exit break_to continue_to numbers (an_expr ty at form) (emits_form numbers ty at form plain h covers) (AfterAs numbers (next_of fresh) t) fresh room s t r)
-
-  plain_grows : (numbers : List ℕ) (ty : Ty) (at : ℕ) (form : Form) → is_call_form form ≡ false → IsExpr c.scope (an_expr ty at form) → CoversExpr (Known numbers) (an_expr ty at form) → (fresh : Fresh) →
-      Grows fresh (lay_run k i (an_expr ty at form) fresh).fresh
-  plain_grows numbers ty at form plain h covers fresh =
-      subst (λ b. Grows fresh (run_of b (emitted k i (an_expr ty at form) fresh)).fresh) (sym (call_form_is ty at form ∙ plain)) (run_grows_plain numbers (an_expr ty at form) (emits_form numbers ty at form plain h covers) fresh)
 
   run_laid : (exit break_to continue_to : ℕ) (numbers : List ℕ) (value : Expr) → IsExpr c.scope value → CoversExpr (Known numbers) value → (fresh : Fresh) → LaidAs exit break_to continue_to numbers numbers (computes c value) (lay_run k i value fresh) fresh
   run_laid exit break_to continue_to numbers (an_expr ty at (literal_form word)) h covers fresh = plain_laid exit break_to continue_to numbers ty at (literal_form word) refl h covers fresh
@@ -217,25 +190,6 @@ module _ (c : Context) (V : List Variable) (first : ℕ) (stands : Stands c V fi
   run_laid exit break_to continue_to numbers (an_expr ty at (method_form resource count address value)) h covers fresh = plain_laid exit break_to continue_to numbers ty at (method_form resource count address value) refl h covers fresh
   run_laid exit break_to continue_to numbers (an_expr ty at (atomic_form target kind compare value original)) h covers fresh = plain_laid exit break_to continue_to numbers ty at (atomic_form target kind compare value original) refl h covers fresh
 
-  run_grows : (numbers : List ℕ) (value : Expr) → IsExpr c.scope value → CoversExpr (Known numbers) value → (fresh : Fresh) → Grows fresh (lay_run k i value fresh).fresh
-  run_grows numbers (an_expr ty at (literal_form word)) h covers fresh = plain_grows numbers ty at (literal_form word) refl h covers fresh
-  run_grows numbers (an_expr ty at (read_form place)) h covers fresh = plain_grows numbers ty at (read_form place) refl h covers fresh
-  run_grows numbers (an_expr ty at (write_form to op common value old)) h covers fresh = plain_grows numbers ty at (write_form to op common value old) refl h covers fresh
-  run_grows numbers (an_expr ty at (convert_form value)) h covers fresh = plain_grows numbers ty at (convert_form value) refl h covers fresh
-  run_grows numbers (an_expr ty at (unary_form op value)) h covers fresh = plain_grows numbers ty at (unary_form op value) refl h covers fresh
-  run_grows numbers (an_expr ty at (binary_form op left right)) h covers fresh = plain_grows numbers ty at (binary_form op left right) refl h covers fresh
-  run_grows numbers (an_expr ty at (choose_form cond consequent alternative)) h covers fresh = plain_grows numbers ty at (choose_form cond consequent alternative) refl h covers fresh
-  run_grows numbers (an_expr ty at (build_form parts)) h covers fresh = plain_grows numbers ty at (build_form parts) refl h covers fresh
-  run_grows numbers (an_expr ty at (pick_form value parts)) h covers fresh = plain_grows numbers ty at (pick_form value parts) refl h covers fresh
-  run_grows numbers (an_expr ty at (call_form function args)) h covers fresh = run_call_grows numbers ty at function args h covers fresh
-  run_grows numbers (an_expr ty at (intrinsic_form number args)) h covers fresh = plain_grows numbers ty at (intrinsic_form number args) refl h covers fresh
-  run_grows numbers (an_expr ty at (method_form resource count address value)) h covers fresh = plain_grows numbers ty at (method_form resource count address value) refl h covers fresh
-  run_grows numbers (an_expr ty at (atomic_form target kind compare value original)) h covers fresh = plain_grows numbers ty at (atomic_form target kind compare value original) refl h covers fresh
-
-  run_if_grows : (numbers : List ℕ) (value : Option Expr) → IsExprIf c.scope value → Covers (Known numbers) (expr_option_mentions value) → (fresh : Fresh) → Grows fresh (lay_run_if k i value fresh).fresh
-  run_if_grows numbers None h covers fresh = grows_refl fresh
-  run_if_grows numbers (Some value) h covers fresh = run_grows numbers value h covers fresh
-
   -- declarations
 
   local_none : (exit break_to continue_to : ℕ) (numbers : List ℕ) (variable : ℕ) → variable < length c.scope.variables → (fresh : Fresh) →
@@ -245,7 +199,7 @@ module _ (c : Context) (V : List Variable) (first : ℕ) (stands : Stands c V fi
       (with_variable (first + variable) (map (λ _. 0) (variable_words t (first + variable))) t, refl,
       (subst (λ l. Related c V first (Known (variable ∷ numbers)) (with_variable variable (map (λ _. 0) (variable_words s variable)) s) (with_variable (first + variable) l t)) same
           (related_set c V first (Known numbers) (Known (variable ∷ numbers)) variable (map (λ _. 0) (variable_words s variable)) s t stands r low among (length-map (variable_words s variable) (λ _. 0)) (length-map (variable_words s variable) (λ _. 0) ∙ long)),
-      keeps_wide (next_of fresh) t _ (λ w lower outside. outside_set first (length c.scope.variables) variable (map (λ _. 0) (variable_words t (first + variable))) t low w outside)))
+      keeps_wide (next_of fresh) t (with_variable (first + variable) (map (λ _. 0) (variable_words t (first + variable))) t) (λ w lower outside. outside_set first (length c.scope.variables) variable (map (λ _. 0) (variable_words t (first + variable))) t low w outside)))
     where
       typed : (ty : Ty) × (variable_type c.scope.variables variable ≡ Some ty)
       typed = type_at c.scope.variables variable low
@@ -320,10 +274,10 @@ module _ (c : Context) (V : List Variable) (first : ℕ) (stands : Stands c V fi
   -- weaker places and relations
 
   place_before : (fresh middle after : Fresh) → Grows middle after → HasPlace fresh after → HasPlace fresh middle
-  place_before fresh middle after g room = (room.0, front_trans middle.variables after.variables V g.0 room.1, room.2)
+  place_before fresh middle after g room = (room.0, front_trans middle.variables after.variables V g.front room.1, room.2)
 
   place_behind : (fresh middle after : Fresh) → Grows fresh middle → HasPlace fresh after → HasPlace middle after
-  place_behind fresh middle after g room = (omega (arith, room.0, front_length fresh.variables middle.variables g.0), room.1, omega (arith, room.2, g.1))
+  place_behind fresh middle after g room = (omega (arith, room.0, front_length fresh.variables middle.variables g.front), room.1, omega (arith, room.2, g.names))
 
   -- what holds behind a later part holds behind an earlier one
   after_on : (numbers : List ℕ) (below more : ℕ) (t u : State) → below ≤ more → Keeps first count below t u → (s v : State) → AfterAs numbers more u s v → AfterAs numbers below t s v
@@ -346,7 +300,7 @@ module _ (c : Context) (V : List Variable) (first : ℕ) (stands : Stands c V fi
           (alike' (place_behind fresh a.fresh b.fresh g room) s1 u x.0))
     where
       low : next_of fresh ≤ next_of a.fresh
-      low = front_length fresh.variables a.fresh.variables g.0
+      low = front_length fresh.variables a.fresh.variables g.front
       onward : (u : State) → Keeps first count (next_of fresh) t u → (s2 v : State) → AfterAs middle (next_of a.fresh) u s2 v → AfterAs numbers (next_of fresh) t s2 v
       onward u keep s2 v y = after_less numbers middle (next_of fresh) t more s2 v (after_on middle (next_of fresh) (next_of a.fresh) t u low keep s2 v y)
 
@@ -386,11 +340,11 @@ module _ (c : Context) (V : List Variable) (first : ℕ) (stands : Stands c V fi
       em : Emits c V first stands f lane n known (Known numbers) cond (emitter k i cond)
       em = value_emits numbers cond h.0 (condition_some cond h) covers
       grow : Grows fresh (emitted k i cond fresh).fresh
-      grow = (em.grows fresh, em.names fresh)
+      grow = record { front = em.grows fresh; names = em.names fresh }
       low : next_of fresh ≤ next_of (emitted k i cond fresh).fresh
       low = front_length fresh.variables (emitted k i cond fresh).fresh.variables (em.grows fresh)
       lower : next_of fresh ≤ next_of A.fresh
-      lower = omega (arith, low, front_length (emitted k i cond fresh).fresh.variables A.fresh.variables grow_a.0)
+      lower = omega (arith, low, front_length (emitted k i cond fresh).fresh.variables A.fresh.variables grow_a.front)
       by_truth : (b' : Bool) (s1 u : State) → Later c V first (Known numbers) (next_of fresh) t s1 u →
           DoesAs exit break_to continue_to (AfterAs numbers (next_of fresh) t) (AfterAs numbers (next_of fresh) t) (AfterAs numbers (next_of fresh) t) ReturnedAs (choice b' a b s1) (flat_choice b' (perform f lane n A.code) (perform f lane n B.code) u)
       by_truth true s1 u later =
@@ -494,13 +448,6 @@ module _ (c : Context) (V : List Variable) (first : ℕ) (stands : Stands c V fi
           (after_on numbers below (next_of fresh) t0 u low x.1) (after_on numbers below (next_of fresh) t0 u low x.1) (after_on numbers below (next_of fresh) t0 u low x.1) (computes c value s) (perform f lane n (lay_run k i value fresh).code u)
           (run_laid i.exit break_to 0 numbers value h covers fresh room s u x.0))
 
-  value_grows : (numbers : List ℕ) (value : Expr) → IsExpr c.scope value → IsSome (type_of value) → CoversExpr (Known numbers) value → (fresh : Fresh) → Grows fresh (emitted k i value fresh).fresh
-  value_grows numbers value h some covers fresh = run_grows_plain numbers value (value_emits numbers value h some covers) fresh
-
-  test_if_grows : (numbers : List ℕ) (name : ℕ) (cond : Option Expr) → IsConditionIf c.scope cond → Covers (Known numbers) (expr_option_mentions cond) → (fresh : Fresh) → Grows fresh (lay_test_if k i name cond fresh).fresh
-  test_if_grows numbers name None h covers fresh = grows_refl fresh
-  test_if_grows numbers name (Some cond) h covers fresh = value_grows numbers cond h.0 (condition_some cond h) covers fresh
-
   -- a test where there is one, and then the rest of a turn
   tested_if_alike : (break_to : ℕ) (numbers : List ℕ) (cond : Option Expr) → IsConditionIf c.scope cond → Covers (Known numbers) (expr_option_mentions cond) → (fresh : Fresh) (rest : List FlatStmt) (body : Doing) (below : ℕ) (t0 : State) → below ≤ next_of fresh →
       HasPlace fresh (lay_test_if k i break_to cond fresh).fresh → ((s u : State) → AfterAs numbers below t0 s u → TurnAs i.exit break_to (AfterAs numbers below t0) ReturnedAs (body s) (perform f lane n rest u)) →
@@ -535,26 +482,15 @@ module _ (c : Context) (V : List Variable) (first : ℕ) (stands : Stands c V fi
       stepped : Laid
       stepped = lay_run_if k i step (body_laid (lay_test_if k i fresh.names cond (with_jumps fresh)).fresh).fresh
       grow_test : Grows (with_jumps fresh) (lay_test_if k i fresh.names cond (with_jumps fresh)).fresh
-      grow_test = test_if_grows numbers fresh.names cond h covers (with_jumps fresh)
+      grow_test = test_if_grows k i bodies fresh.names cond (with_jumps fresh)
       grow_step : Grows (body_laid (lay_test_if k i fresh.names cond (with_jumps fresh)).fresh).fresh (lay_run_if k i step (body_laid (lay_test_if k i fresh.names cond (with_jumps fresh)).fresh).fresh).fresh
-      grow_step = run_if_grows numbers step h' covers' (body_laid (lay_test_if k i fresh.names cond (with_jumps fresh)).fresh).fresh
+      grow_step = run_if_grows k i bodies step (body_laid (lay_test_if k i fresh.names cond (with_jumps fresh)).fresh).fresh
       jumped : HasPlace (with_jumps fresh) (lay_run_if k i step (body_laid (lay_test_if k i fresh.names cond (with_jumps fresh)).fresh).fresh).fresh
       jumped = (room.0, room.1, omega (arith, room.2))
       low : next_of fresh ≤ next_of (lay_test_if k i fresh.names cond (with_jumps fresh)).fresh
-      low = front_length fresh.variables (lay_test_if k i fresh.names cond (with_jumps fresh)).fresh.variables grow_test.0
+      low = front_length fresh.variables (lay_test_if k i fresh.names cond (with_jumps fresh)).fresh.variables grow_test.front
       lower : next_of fresh ≤ next_of (body_laid (lay_test_if k i fresh.names cond (with_jumps fresh)).fresh).fresh
-      lower = omega (arith, low, front_length (lay_test_if k i fresh.names cond (with_jumps fresh)).fresh.variables (body_laid (lay_test_if k i fresh.names cond (with_jumps fresh)).fresh).fresh.variables (grows (lay_test_if k i fresh.names cond (with_jumps fresh)).fresh).0)
-
-  tested_loop_grows : (numbers : List ℕ) (cond step : Option Expr) → IsConditionIf c.scope cond → IsExprIf c.scope step → Covers (Known numbers) (expr_option_mentions cond) → Covers (Known numbers) (expr_option_mentions step) → (fresh : Fresh) (body_laid : Fresh → Laid) →
-      ((fresh' : Fresh) → Grows fresh' (body_laid fresh').fresh) →
-      Grows fresh (lay_loop fresh.names (laid_then (lay_test_if k i fresh.names cond (with_jumps fresh)) (λ fresh'. laid_then (lay_body (suc fresh.names) (body_laid fresh')) (λ fresh''. lay_run_if k i step fresh'')))).fresh
-  tested_loop_grows numbers cond step h h' covers covers' fresh body_laid grows =
-      let grow_test = test_if_grows numbers fresh.names cond h covers (with_jumps fresh) in
-      let grow_body = grows (lay_test_if k i fresh.names cond (with_jumps fresh)).fresh in
-      let grow_step = run_if_grows numbers step h' covers' (body_laid (lay_test_if k i fresh.names cond (with_jumps fresh)).fresh).fresh in
-      (front_trans fresh.variables (lay_test_if k i fresh.names cond (with_jumps fresh)).fresh.variables _ grow_test.0
-          (front_trans (lay_test_if k i fresh.names cond (with_jumps fresh)).fresh.variables (body_laid (lay_test_if k i fresh.names cond (with_jumps fresh)).fresh).fresh.variables _ grow_body.0 grow_step.0),
-      omega (arith, grow_test.1, grow_body.1, grow_step.1))
+      lower = omega (arith, low, front_length (lay_test_if k i fresh.names cond (with_jumps fresh)).fresh.variables (body_laid (lay_test_if k i fresh.names cond (with_jumps fresh)).fresh).fresh.variables (grows (lay_test_if k i fresh.names cond (with_jumps fresh)).fresh).front)
 
   -- a `do`
   testing_loop : (outer_break outer_continue : ℕ) (numbers behind : List ℕ) (cond : Expr) → IsCondition c.scope cond → CoversExpr (Known numbers) cond → (body : Doing) (fresh : Fresh) (body_laid : Fresh → Laid) → ((v : ℕ) → Known numbers v → Known behind v) →
@@ -568,21 +504,14 @@ module _ (c : Context) (V : List Variable) (first : ℕ) (stands : Stands c V fi
       body_alike fresh.names (suc fresh.names) (λ e. omega (arith, e)) (λ e. omega (arith, e, room.2)) numbers behind body (body_laid (with_jumps fresh)) (with_jumps fresh) (λ s2. after (condition c cond s2) (λ goes_on. leaves (if goes_on then at_end else by_break)))
           (lay_test k i fresh.names cond (body_laid (with_jumps fresh)).fresh).code (next_of fresh) t0 (omega arith) more (alike (with_jumps fresh))
           (place_before (with_jumps fresh) (body_laid (with_jumps fresh)).fresh (lay_test k i fresh.names cond (body_laid (with_jumps fresh)).fresh).fresh grow_test jumped)
-          (λ s2 v y. testing_alike fresh.names numbers cond h covers (body_laid (with_jumps fresh)).fresh (next_of fresh) t0 (front_length fresh.variables (body_laid (with_jumps fresh)).fresh.variables (grows (with_jumps fresh)).0)
+          (λ s2 v y. testing_alike fresh.names numbers cond h covers (body_laid (with_jumps fresh)).fresh (next_of fresh) t0 (front_length fresh.variables (body_laid (with_jumps fresh)).fresh.variables (grows (with_jumps fresh)).front)
               (place_behind (with_jumps fresh) (body_laid (with_jumps fresh)).fresh (lay_test k i fresh.names cond (body_laid (with_jumps fresh)).fresh).fresh (grows (with_jumps fresh)) jumped) s2 v y)
           s1 u x) s t r
     where
       grow_test : Grows (body_laid (with_jumps fresh)).fresh (lay_test k i fresh.names cond (body_laid (with_jumps fresh)).fresh).fresh
-      grow_test = value_grows numbers cond h.0 (condition_some cond h) covers (body_laid (with_jumps fresh)).fresh
+      grow_test = value_grows k i bodies cond (body_laid (with_jumps fresh)).fresh
       jumped : HasPlace (with_jumps fresh) (lay_test k i fresh.names cond (body_laid (with_jumps fresh)).fresh).fresh
       jumped = (room.0, room.1, omega (arith, room.2))
-
-  testing_loop_grows : (numbers : List ℕ) (cond : Expr) → IsCondition c.scope cond → CoversExpr (Known numbers) cond → (fresh : Fresh) (body_laid : Fresh → Laid) → ((fresh' : Fresh) → Grows fresh' (body_laid fresh').fresh) →
-      Grows fresh (lay_loop fresh.names (laid_then (lay_body (suc fresh.names) (body_laid (with_jumps fresh))) (λ fresh'. lay_test k i fresh.names cond fresh'))).fresh
-  testing_loop_grows numbers cond h covers fresh body_laid grows =
-      let grow_body = grows (with_jumps fresh) in
-      let grow_test = value_grows numbers cond h.0 (condition_some cond h) covers (body_laid (with_jumps fresh)).fresh in
-      (front_trans fresh.variables (body_laid (with_jumps fresh)).fresh.variables _ grow_body.0 grow_test.0, omega (arith, grow_body.1, grow_test.1))
 
   -- a block: what it declares ends with it
   block_laid : (exit break_to continue_to : ℕ) (numbers behind : List ℕ) (doing : Doing) (fresh : Fresh) (body : Laid) → ((v : ℕ) → Known numbers v → Known behind v) → LaidAs exit break_to continue_to numbers behind doing body fresh →
@@ -600,10 +529,6 @@ module _ (c : Context) (V : List Variable) (first : ℕ) (stands : Stands c V fi
   while_laid outer_break outer_continue numbers behind cond h covers body fresh body_laid more grows alike =
       tested_loop outer_break outer_continue numbers behind (Some cond) None h tt covers tt body fresh body_laid more grows alike
 
-  while_grows : (numbers : List ℕ) (cond : Expr) → IsCondition c.scope cond → CoversExpr (Known numbers) cond → (fresh : Fresh) (body_laid : Fresh → Laid) → ((fresh' : Fresh) → Grows fresh' (body_laid fresh').fresh) →
-      Grows fresh (lay_loop fresh.names (laid_then (lay_test k i fresh.names cond (with_jumps fresh)) (λ fresh'. lay_body (suc fresh.names) (body_laid fresh')))).fresh
-  while_grows numbers cond h covers fresh body_laid grows = tested_loop_grows numbers (Some cond) None h tt covers tt fresh body_laid grows
-
   -- all statements
 
   -- what is declared behind an alternative
@@ -615,14 +540,6 @@ module _ (c : Context) (V : List Variable) (first : ℕ) (stands : Stands c V fi
   known_more_if numbers no_stmt v h = h
   known_more_if numbers (some_stmt body) v h = known_more (length c.scope.variables) numbers body v h
 
-  return_grows : (numbers : List ℕ) (value : Option Expr) → IsReturn c.scope value → Covers (Known numbers) (expr_option_mentions value) → (fresh : Fresh) → Grows fresh (lay_return k i value fresh).fresh
-  return_grows numbers None h covers fresh = grows_refl fresh
-  return_grows numbers (Some value) h covers fresh = value_grows numbers value h.0 (ap is_void h.1 ∙ not_true (is_void c.scope.result) h.2) covers fresh
-    where
-      not_true : (b : Bool) → IsTrue (not b) → b ≡ false
-      not_true true e = absurd (true≢false (sym e))
-      not_true false e = refl
-
   return_laid : (break_to continue_to : ℕ) (numbers : List ℕ) (value : Option Expr) → IsReturn c.scope value → Covers (Known numbers) (expr_option_mentions value) → (fresh : Fresh) →
       LaidAs i.exit break_to continue_to numbers numbers (returns c value) (lay_return k i value fresh) fresh
   return_laid break_to continue_to numbers None h covers fresh = λ room s t r.
@@ -633,45 +550,10 @@ module _ (c : Context) (V : List Variable) (first : ℕ) (stands : Stands c V fi
       not_true true e = absurd (true≢false (sym e))
       not_true false e = refl
 
-  local_grows : (numbers : List ℕ) (variable : ℕ) (init : Option Expr) → IsLocal c.scope variable init → Covers (Known numbers) (expr_option_mentions init) → (fresh : Fresh) → Grows fresh (lay_local k i variable init fresh).fresh
-  local_grows numbers variable None h covers fresh = grows_refl fresh
-  local_grows numbers variable (Some init) h covers fresh = value_grows numbers init h.0 (local_type variable (type_of init) h.1) covers fresh
-
   local_laid : (exit break_to continue_to : ℕ) (numbers : List ℕ) (variable : ℕ) (init : Option Expr) → IsLocal c.scope variable init → Covers (Known numbers) (expr_option_mentions init) → (fresh : Fresh) →
       LaidAs exit break_to continue_to numbers (variable ∷ numbers) (declares c variable init) (lay_local k i variable init fresh) fresh
   local_laid exit break_to continue_to numbers variable None h covers fresh = local_none exit break_to continue_to numbers variable h fresh
   local_laid exit break_to continue_to numbers variable (Some init) h covers fresh = local_some exit break_to continue_to numbers variable init h.0 h.1 (local_type variable (type_of init) h.1) covers fresh
-
-  mutual
-    pub stmt_grows : (stmt : Stmt) (in_loop : Bool) → IsStmt c.scope in_loop stmt → (numbers : List ℕ) → CoveredStmt (length c.scope.variables) numbers stmt → (j : Jumps) (fresh : Fresh) → Grows fresh (lay k i j stmt fresh).fresh
-    stmt_grows (block_stmt body) in_loop h numbers covers j fresh = all_statements_grow body in_loop h numbers covers j fresh
-    stmt_grows (local_stmt variable init) in_loop h numbers covers j fresh = local_grows numbers variable init h covers fresh
-    stmt_grows (run_stmt value) in_loop h numbers covers j fresh = run_grows numbers value h covers fresh
-    stmt_grows (if_stmt cond consequent alternative) in_loop h numbers covers j fresh =
-        let a = lay k i j consequent (emitted k i cond fresh).fresh in
-        grows_trans fresh (emitted k i cond fresh).fresh _ (value_grows numbers cond h.0.0 (condition_some cond h.0) covers.0 fresh)
-        (grows_trans (emitted k i cond fresh).fresh a.fresh _ (stmt_grows consequent in_loop h.1 numbers covers.1 j (emitted k i cond fresh).fresh) (maybe_grows alternative in_loop h.2 numbers covers.2 j a.fresh))
-    stmt_grows (for_stmt init cond step body) in_loop h numbers covers j fresh =
-        grows_trans fresh (lay_all k i j init fresh).fresh _ (all_statements_grow init in_loop h.0 numbers covers.0 j fresh)
-        (tested_loop_grows (declared_in numbers init) cond step h.1 h.2 covers.1 covers.2 (lay_all k i j init fresh).fresh (λ fresh'. lay k i (jumps_of (lay_all k i j init fresh).fresh) body fresh')
-            (λ fresh'. stmt_grows body true h.3 (declared_in numbers init) covers.3 (jumps_of (lay_all k i j init fresh).fresh) fresh'))
-    stmt_grows (while_stmt cond body) in_loop h numbers covers j fresh =
-        while_grows numbers cond h.0 covers.0 fresh (λ fresh'. lay k i (jumps_of fresh) body fresh') (λ fresh'. stmt_grows body true h.1 numbers covers.1 (jumps_of fresh) fresh')
-    stmt_grows (do_stmt body cond) in_loop h numbers covers j fresh =
-        testing_loop_grows numbers cond h.1 covers.1 fresh (λ fresh'. lay k i (jumps_of fresh) body fresh') (λ fresh'. stmt_grows body true h.0 numbers covers.0 (jumps_of fresh) fresh')
-    stmt_grows break_stmt in_loop h numbers covers j fresh = grows_refl fresh
-    stmt_grows continue_stmt in_loop h numbers covers j fresh = grows_refl fresh
-    stmt_grows (return_stmt value) in_loop h numbers covers j fresh = return_grows numbers value h covers fresh
-
-    pub all_statements_grow : (stmts : Stmts) (in_loop : Bool) → AreStmts c.scope in_loop stmts → (numbers : List ℕ) → CoveredAll (length c.scope.variables) numbers stmts → (j : Jumps) (fresh : Fresh) → Grows fresh (lay_all k i j stmts fresh).fresh
-    all_statements_grow no_stmts in_loop h numbers covers j fresh = grows_refl fresh
-    all_statements_grow (more_stmts first_stmt rest) in_loop h numbers covers j fresh =
-        grows_trans fresh (lay k i j first_stmt fresh).fresh _ (stmt_grows first_stmt in_loop h.0 numbers covers.0 j fresh)
-            (all_statements_grow rest in_loop h.1 (declared_by numbers first_stmt) covers.1 j (lay k i j first_stmt fresh).fresh)
-
-    pub maybe_grows : (stmt : MaybeStmt) (in_loop : Bool) → IsStmtIf c.scope in_loop stmt → (numbers : List ℕ) → CoveredIf (length c.scope.variables) numbers stmt → (j : Jumps) (fresh : Fresh) → Grows fresh (lay_if k i j stmt fresh).fresh
-    maybe_grows no_stmt in_loop h numbers covers j fresh = grows_refl fresh
-    maybe_grows (some_stmt body) in_loop h numbers covers j fresh = stmt_grows body in_loop h numbers covers j fresh
 
   mutual
     pub stmt_laid : (stmt : Stmt) (in_loop : Bool) → IsStmt c.scope in_loop stmt → (numbers : List ℕ) → CoveredStmt (length c.scope.variables) numbers stmt → (j : Jumps) (fresh : Fresh) →
@@ -683,7 +565,7 @@ module _ (c : Context) (V : List Variable) (first : ℕ) (stands : Stands c V fi
     stmt_laid (if_stmt cond consequent alternative) in_loop h numbers covers j fresh =
         if_laid i.exit j.break_name j.continue_name numbers (declared_by numbers consequent) (declared_if numbers alternative) cond h.0 covers.0 (λ s. does c n consequent s) (λ s. does_if c n alternative s) fresh
             (lay k i j consequent (emitted k i cond fresh).fresh) (lay_if k i j alternative (lay k i j consequent (emitted k i cond fresh).fresh).fresh)
-            (stmt_grows consequent in_loop h.1 numbers covers.1 j (emitted k i cond fresh).fresh) (maybe_grows alternative in_loop h.2 numbers covers.2 j (lay k i j consequent (emitted k i cond fresh).fresh).fresh)
+            (stmt_grows k i bodies consequent j (emitted k i cond fresh).fresh) (maybe_grows k i bodies alternative j (lay k i j consequent (emitted k i cond fresh).fresh).fresh)
             (known_more (length c.scope.variables) numbers consequent) (known_more_if numbers alternative)
             (stmt_laid consequent in_loop h.1 numbers covers.1 j (emitted k i cond fresh).fresh) (maybe_laid alternative in_loop h.2 numbers covers.2 j (lay k i j consequent (emitted k i cond fresh).fresh).fresh)
     stmt_laid (for_stmt init cond step body) in_loop h numbers covers j fresh =
@@ -694,20 +576,19 @@ module _ (c : Context) (V : List Variable) (first : ℕ) (stands : Stands c V fi
         (laid_next i.exit j.break_name j.continue_name numbers (declared_in numbers init) (declared_in numbers init) (λ s. does_all c n init s) (λ s. turns n (tested_turn c cond (λ s'. does c n body s') step) s) fresh (lay_all k i j init fresh)
             (lay_loop (lay_all k i j init fresh).fresh.names (laid_then (lay_test_if k i (lay_all k i j init fresh).fresh.names cond (with_jumps (lay_all k i j init fresh).fresh)) (λ fresh'.
                 laid_then (lay_body (suc (lay_all k i j init fresh).fresh.names) (lay k i (jumps_of (lay_all k i j init fresh).fresh) body fresh')) (λ fresh''. lay_run_if k i step fresh''))))
-            (all_statements_grow init in_loop h.0 numbers covers.0 j fresh)
-            (tested_loop_grows (declared_in numbers init) cond step h.1 h.2 covers.1 covers.2 (lay_all k i j init fresh).fresh (λ fresh'. lay k i (jumps_of (lay_all k i j init fresh).fresh) body fresh')
-                (λ fresh'. stmt_grows body true h.3 (declared_in numbers init) covers.3 (jumps_of (lay_all k i j init fresh).fresh) fresh'))
+            (stmts_grow k i bodies init j fresh)
+            (loop_grows k i bodies cond step body (lay_all k i j init fresh).fresh (λ j' fresh'. stmt_grows k i bodies body j' fresh'))
             (all_known_more (length c.scope.variables) numbers init) (all_laid init in_loop h.0 numbers covers.0 j fresh)
             (tested_loop j.break_name j.continue_name (declared_in numbers init) (declared_by (declared_in numbers init) body) cond step h.1 h.2 covers.1 covers.2 (λ s'. does c n body s') (lay_all k i j init fresh).fresh
                 (λ fresh'. lay k i (jumps_of (lay_all k i j init fresh).fresh) body fresh') (known_more (length c.scope.variables) (declared_in numbers init) body)
-                (λ fresh'. stmt_grows body true h.3 (declared_in numbers init) covers.3 (jumps_of (lay_all k i j init fresh).fresh) fresh')
+                (λ fresh'. stmt_grows k i bodies body (jumps_of (lay_all k i j init fresh).fresh) fresh')
                 (λ fresh'. stmt_laid body true h.3 (declared_in numbers init) covers.3 (jumps_of (lay_all k i j init fresh).fresh) fresh')))
     stmt_laid (while_stmt cond body) in_loop h numbers covers j fresh =
         while_laid j.break_name j.continue_name numbers (declared_by numbers body) cond h.0 covers.0 (λ s'. does c n body s') fresh (λ fresh'. lay k i (jumps_of fresh) body fresh') (known_more (length c.scope.variables) numbers body)
-            (λ fresh'. stmt_grows body true h.1 numbers covers.1 (jumps_of fresh) fresh') (λ fresh'. stmt_laid body true h.1 numbers covers.1 (jumps_of fresh) fresh')
+            (λ fresh'. stmt_grows k i bodies body (jumps_of fresh) fresh') (λ fresh'. stmt_laid body true h.1 numbers covers.1 (jumps_of fresh) fresh')
     stmt_laid (do_stmt body cond) in_loop h numbers covers j fresh =
         testing_loop j.break_name j.continue_name numbers (declared_by numbers body) cond h.1 covers.1 (λ s'. does c n body s') fresh (λ fresh'. lay k i (jumps_of fresh) body fresh') (known_more (length c.scope.variables) numbers body)
-            (λ fresh'. stmt_grows body true h.0 numbers covers.0 (jumps_of fresh) fresh') (λ fresh'. stmt_laid body true h.0 numbers covers.0 (jumps_of fresh) fresh')
+            (λ fresh'. stmt_grows k i bodies body (jumps_of fresh) fresh') (λ fresh'. stmt_laid body true h.0 numbers covers.0 (jumps_of fresh) fresh')
     stmt_laid break_stmt in_loop h numbers covers j fresh = λ room s t r. (t, refl, (r, λ w lower outside. refl))
     stmt_laid continue_stmt in_loop h numbers covers j fresh = λ room s t r. (t, refl, (r, λ w lower outside. refl))
     stmt_laid (return_stmt value) in_loop h numbers covers j fresh = return_laid j.break_name j.continue_name numbers value h covers fresh
@@ -717,7 +598,7 @@ module _ (c : Context) (V : List Variable) (first : ℕ) (stands : Stands c V fi
     all_laid no_stmts in_loop h numbers covers j fresh = λ room s t r. (t, refl, (r, λ w lower outside. refl))
     all_laid (more_stmts first_stmt rest) in_loop h numbers covers j fresh =
         laid_next i.exit j.break_name j.continue_name numbers (declared_by numbers first_stmt) (declared_in (declared_by numbers first_stmt) rest) (λ s. does c n first_stmt s) (λ s. does_all c n rest s) fresh (lay k i j first_stmt fresh)
-            (lay_all k i j rest (lay k i j first_stmt fresh).fresh) (stmt_grows first_stmt in_loop h.0 numbers covers.0 j fresh) (all_statements_grow rest in_loop h.1 (declared_by numbers first_stmt) covers.1 j (lay k i j first_stmt fresh).fresh)
+            (lay_all k i j rest (lay k i j first_stmt fresh).fresh) (stmt_grows k i bodies first_stmt j fresh) (stmts_grow k i bodies rest j (lay k i j first_stmt fresh).fresh)
             (known_more (length c.scope.variables) numbers first_stmt) (stmt_laid first_stmt in_loop h.0 numbers covers.0 j fresh) (all_laid rest in_loop h.1 (declared_by numbers first_stmt) covers.1 j (lay k i j first_stmt fresh).fresh)
 
     pub maybe_laid : (stmt : MaybeStmt) (in_loop : Bool) → IsStmtIf c.scope in_loop stmt → (numbers : List ℕ) → CoveredIf (length c.scope.variables) numbers stmt → (j : Jumps) (fresh : Fresh) →

@@ -84,7 +84,7 @@ module _ (exit break_to continue_to : ℕ) where
 
 -- names
 
-same_name : (name : ℕ) (t : State) → named_end name (flat_to name) t ≡ goes_with flat_end t
+pub same_name : (name : ℕ) (t : State) → named_end name (flat_to name) t ≡ goes_with flat_end t
 same_name name t = ap (λ b. goes_with (if b then flat_end else flat_to name) t) (eq-eqb name name refl)
 
 other_name : (name other : ℕ) (t : State) → (name ≡ other → ⊥) → named_end name (flat_to other) t ≡ goes_with (flat_to other) t

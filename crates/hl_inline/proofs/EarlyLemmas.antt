@@ -62,11 +62,11 @@ in_filter p (y ∷ xs) x h e = by_test (p y) refl (in_cases y x xs h) (λ h. in_
 -- a number of a range
 pub in_range : (from count x : ℕ) → from ≤ x → x < from + count → In (range_with_len from count) x
 in_range from zero x low high = absurd (omega (arith, low, high))
-in_range from (suc count) x low high = by_case (cases_eq x from)
+in_range from (suc count) x low high = by_case (cases_eq x from) (λ apart. in_range (from + 1) count x (omega (arith, low, apart)) (omega (arith, high)))
   where
-    by_case : (x ≡ from) ⊎ (x ≡ from → ⊥) → In (from ∷ range_with_len (from + 1) count) x
-    by_case (inl e) = subst (λ z. In (z ∷ range_with_len (from + 1) count) x) e (in_first x (range_with_len (from + 1) count))
-    by_case (inr apart) = in_rest from x (range_with_len (from + 1) count) (in_range (from + 1) count x (omega (arith, low, apart)) (omega (arith, high)))
+    by_case : (x ≡ from) ⊎ (x ≡ from → ⊥) → ((x ≡ from → ⊥) → In (range_with_len (from + 1) count) x) → In (from ∷ range_with_len (from + 1) count) x
+    by_case (inl e) next = subst (λ z. In (z ∷ range_with_len (from + 1) count) x) e (in_first x (range_with_len (from + 1) count))
+    by_case (inr apart) next = in_rest from x (range_with_len (from + 1) count) (next apart)
 
 -- what may be reached: a number that isn't below a bound isn't a variable
 abbrev pub InOr : (bound : ℕ) → List ℕ → ℕ → Type 0
@@ -128,15 +128,15 @@ declared_more b declared known (local_stmt variable init) h v there = by_case (i
     by_case : (v ≡ variable) ⊎ In declared v → InOr b (variable ∷ known) v
     by_case (inl e) = inl (subst (λ z. In (z ∷ known) v) e (in_first v known))
     by_case (inr i) = by_known (h v i)
-declared_more b declared known (block_stmt body) h = h
-declared_more b declared known (run_stmt value) h = h
-declared_more b declared known (if_stmt cond consequent alternative) h = h
-declared_more b declared known (for_stmt init cond step body) h = h
-declared_more b declared known (while_stmt cond body) h = h
-declared_more b declared known (do_stmt body cond) h = h
-declared_more b declared known break_stmt h = h
-declared_more b declared known continue_stmt h = h
-declared_more b declared known (return_stmt value) h = h
+declared_more b declared known (block_stmt body) h v there = h v there
+declared_more b declared known (run_stmt value) h v there = h v there
+declared_more b declared known (if_stmt cond consequent alternative) h v there = h v there
+declared_more b declared known (for_stmt init cond step body) h v there = h v there
+declared_more b declared known (while_stmt cond body) h v there = h v there
+declared_more b declared known (do_stmt body cond) h v there = h v there
+declared_more b declared known break_stmt h v there = h v there
+declared_more b declared known continue_stmt h v there = h v there
+declared_more b declared known (return_stmt value) h v there = h v there
 
 -- what was known stays known
 pub known_more : (b : ℕ) (known : List ℕ) (stmt : Stmt) (v : ℕ) → InOr b known v → InOr b (declared_by known stmt) v
@@ -216,12 +216,125 @@ function_covered f =
     all_covered (length f.variables) f.body (parameter_numbers f) (known_at_start f) (λ v there. inl (in_front (parameter_numbers f) (early_variables f) v there)) early_known
   where
     early_known : Within (length f.variables) (early_in (parameter_numbers f) f.body) (known_at_start f)
-    early_known v there = by_case (cases_lt v (length f.parameters)) (cases_lt v (length f.variables))
+    early_known v there = by_case (cases_lt v (length f.variables))
       where
-        by_case : (v < length f.parameters) ⊎ (length f.parameters ≤ v) → (v < length f.variables) ⊎ (length f.variables ≤ v) → InOr (length f.variables) (known_at_start f) v
-        by_case low (inr past) = inr past
-        by_case (inl parameter) (inl here) = inl (in_front (parameter_numbers f) (early_variables f) v (in_range 0 (length f.parameters) v (omega arith) (omega (arith, parameter))))
-        by_case (inr behind) (inl here) =
+        by_case : (v < length f.variables) ⊎ (length f.variables ≤ v) → InOr (length f.variables) (known_at_start f) v
+        by_case (inr past) = inr past
+        by_case (inl here) =
             inl (in_back (parameter_numbers f) (early_variables f) v
-                (in_filter (λ number. is_in (early_in (parameter_numbers f) f.body) number) (range_with_len (length f.parameters) (length f.variables - length f.parameters)) v
-                    (in_range (length f.parameters) (length f.variables - length f.parameters) v behind (omega (arith, here, behind))) there))
+                (in_filter (λ number. is_in (early_in (parameter_numbers f) f.body) number) (range_with_len 0 (length f.variables)) v
+                    (in_range 0 (length f.variables) v (omega arith) (omega (arith, here))) there))
+
+-- what is declared isn't reached before its declaration
+
+pub in_append_cases : (xs ys : List ℕ) (x : ℕ) → In (xs ++ ys) x → In xs x ⊎ In ys x
+in_append_cases [] ys x h = inr h
+in_append_cases (y ∷ xs) ys x h = by_case (in_cases y x (xs ++ ys) h) (λ h. in_append_cases xs ys x h)
+  where
+    by_rest : In xs x ⊎ In ys x → In (y ∷ xs) x ⊎ In ys x
+    by_rest (inl h) = inl (in_rest y x xs h)
+    by_rest (inr h) = inr h
+    by_case : (x ≡ y) ⊎ In (xs ++ ys) x → (In (xs ++ ys) x → In xs x ⊎ In ys x) → In (y ∷ xs) x ⊎ In ys x
+    by_case (inl e) next = inl (subst (λ z. In (z ∷ xs) x) e (in_first x xs))
+    by_case (inr h) next = by_rest (next h)
+
+-- not among two lists
+apart_append : (xs ys : List ℕ) (x : ℕ) → (In xs x → ⊥) → (In ys x → ⊥) → In (xs ++ ys) x → ⊥
+apart_append xs ys x a b h = by_case (in_append_cases xs ys x h)
+  where
+    by_case : In xs x ⊎ In ys x → ⊥
+    by_case (inl h) = a h
+    by_case (inr h) = b h
+
+pub filter_holds : (p : ℕ → Bool) (xs : List ℕ) (x : ℕ) → In (filter p xs) x → p x ≡ true
+filter_holds p [] x h = never h
+filter_holds p (y ∷ xs) x h = by_test (p y) refl h (λ h. filter_holds p xs x h)
+  where
+    by_test : (b : Bool) → p y ≡ b → In (cond b (y ∷ filter p xs) (filter p xs)) x → (In (filter p xs) x → p x ≡ true) → p x ≡ true
+    by_test true is h next = by_case (in_cases y x (filter p xs) h)
+      where
+        by_case : (x ≡ y) ⊎ In (filter p xs) x → p x ≡ true
+        by_case (inl e) = ap p e ∙ is
+        by_case (inr h) = next h
+    by_test false is h next = next h
+
+pub filter_in : (p : ℕ → Bool) (xs : List ℕ) (x : ℕ) → In (filter p xs) x → In xs x
+filter_in p [] x h = never h
+filter_in p (y ∷ xs) x h = by_test (p y) h (λ h. filter_in p xs x h)
+  where
+    by_test : (b : Bool) → In (cond b (y ∷ filter p xs) (filter p xs)) x → (In (filter p xs) x → In xs x) → In (y ∷ xs) x
+    by_test true h next = by_case (in_cases y x (filter p xs) h)
+      where
+        by_case : (x ≡ y) ⊎ In (filter p xs) x → In (y ∷ xs) x
+        by_case (inl e) = subst (λ z. In (z ∷ xs) x) e (in_first x xs)
+        by_case (inr h) = in_rest y x xs (next h)
+    by_test false h next = in_rest y x xs (next h)
+
+undeclared_apart : (declared : List ℕ) (text : List Mention) (v : ℕ) → In declared v → In (undeclared declared text) v → ⊥
+undeclared_apart declared text v there h =
+    true≢false (sym (filter_holds (λ number. not (is_in declared number)) (filter_map variable_of text) v h) ∙ ap not there)
+
+declared_stays : (declared : List ℕ) (stmt : Stmt) (v : ℕ) → In declared v → In (declared_by declared stmt) v
+declared_stays declared (local_stmt variable init) v h = in_rest variable v declared h
+declared_stays declared (block_stmt body) v h = h
+declared_stays declared (run_stmt value) v h = h
+declared_stays declared (if_stmt cond consequent alternative) v h = h
+declared_stays declared (for_stmt init cond step body) v h = h
+declared_stays declared (while_stmt cond body) v h = h
+declared_stays declared (do_stmt body cond) v h = h
+declared_stays declared break_stmt v h = h
+declared_stays declared continue_stmt v h = h
+declared_stays declared (return_stmt value) v h = h
+
+all_declared_stays : (declared : List ℕ) (stmts : Stmts) (v : ℕ) → In declared v → In (declared_in declared stmts) v
+all_declared_stays declared no_stmts v h = h
+all_declared_stays declared (more_stmts first rest) v h = all_declared_stays (declared_by declared first) rest v (declared_stays declared first v h)
+
+mutual
+  stmt_apart : (stmt : Stmt) (declared : List ℕ) (v : ℕ) → In declared v → In (early declared stmt) v → ⊥
+  stmt_apart (block_stmt body) declared v there = all_apart body declared v there
+  stmt_apart (local_stmt variable init) declared v there = undeclared_apart declared (expr_option_mentions init) v there
+  stmt_apart (run_stmt value) declared v there = undeclared_apart declared (expr_mentions value) v there
+  stmt_apart (if_stmt cond consequent alternative) declared v there =
+      apart_append (undeclared declared (expr_mentions cond)) (early declared consequent ++ early_if declared alternative) v (undeclared_apart declared (expr_mentions cond) v there)
+      (apart_append (early declared consequent) (early_if declared alternative) v (stmt_apart consequent declared v there) (if_apart alternative declared v there))
+  stmt_apart (for_stmt init cond step body) declared v there =
+      let inner = declared_in declared init in
+      let there' = all_declared_stays declared init v there in
+      apart_append (early_in declared init) (undeclared inner (expr_option_mentions cond) ++ (undeclared inner (expr_option_mentions step) ++ early inner body)) v (all_apart init declared v there)
+      (apart_append (undeclared inner (expr_option_mentions cond)) (undeclared inner (expr_option_mentions step) ++ early inner body) v (undeclared_apart inner (expr_option_mentions cond) v there')
+      (apart_append (undeclared inner (expr_option_mentions step)) (early inner body) v (undeclared_apart inner (expr_option_mentions step) v there') (stmt_apart body inner v there')))
+  stmt_apart (while_stmt cond body) declared v there =
+      apart_append (undeclared declared (expr_mentions cond)) (early declared body) v (undeclared_apart declared (expr_mentions cond) v there) (stmt_apart body declared v there)
+  stmt_apart (do_stmt body cond) declared v there =
+      apart_append (early declared body) (undeclared declared (expr_mentions cond)) v (stmt_apart body declared v there) (undeclared_apart declared (expr_mentions cond) v there)
+  stmt_apart break_stmt declared v there = λ h. never h
+  stmt_apart continue_stmt declared v there = λ h. never h
+  stmt_apart (return_stmt value) declared v there = undeclared_apart declared (expr_option_mentions value) v there
+
+  all_apart : (stmts : Stmts) (declared : List ℕ) (v : ℕ) → In declared v → In (early_in declared stmts) v → ⊥
+  all_apart no_stmts declared v there = λ h. never h
+  all_apart (more_stmts first rest) declared v there =
+      apart_append (early declared first) (early_in (declared_by declared first) rest) v (stmt_apart first declared v there) (all_apart rest (declared_by declared first) v (declared_stays declared first v there))
+
+  if_apart : (stmt : MaybeStmt) (declared : List ℕ) (v : ℕ) → In declared v → In (early_if declared stmt) v → ⊥
+  if_apart no_stmt declared v there = λ h. never h
+  if_apart (some_stmt body) declared v there = stmt_apart body declared v there
+
+range_bounds : (from count x : ℕ) → In (range_with_len from count) x → (from ≤ x) × (x < from + count)
+range_bounds from zero x h = never h
+range_bounds from (suc count) x h = by_case (in_cases from x (range_with_len (from + 1) count) h) (λ h. range_bounds (from + 1) count x h)
+  where
+    by_case : (x ≡ from) ⊎ In (range_with_len (from + 1) count) x → (In (range_with_len (from + 1) count) x → (from + 1 ≤ x) × (x < from + 1 + count)) → (from ≤ x) × (x < from + suc count)
+    by_case (inl e) next = (omega (arith, e), omega (arith, e))
+    by_case (inr h) next = let r = next h in (omega (arith, r.0), omega (arith, r.1))
+
+-- the variables that may be reached early are no parameters
+pub early_behind : (f : FunctionDef) (v : ℕ) → In (early_variables f) v → (length f.parameters ≤ v) × (v < length f.variables)
+early_behind f v h =
+    (by_case (cases_lt v (length f.parameters)), omega (arith, (range_bounds 0 (length f.variables) v (filter_in (λ number. is_in (early_in (parameter_numbers f) f.body) number) (range_with_len 0 (length f.variables)) v h)).1))
+  where
+    by_case : (v < length f.parameters) ⊎ (length f.parameters ≤ v) → length f.parameters ≤ v
+    by_case (inr behind) = behind
+    by_case (inl parameter) =
+        absurd (all_apart f.body (parameter_numbers f) v (in_range 0 (length f.parameters) v (omega arith) (omega (arith, parameter))) (filter_holds (λ number. is_in (early_in (parameter_numbers f) f.body) number) (range_with_len 0 (length f.variables)) v h))

@@ -67,6 +67,9 @@ nothing_more m = omega arith
 one_more : (m u : ℕ) → m + suc u ≡ suc m + u
 one_more m u = omega arith
 
+plus_suc : (m u : ℕ) → m + suc u ≡ suc (m + u)
+plus_suc m u = omega arith
+
 pub written_at : (c : Context) (V : List Variable) (number : ℕ) (words : List (List ℕ)) (t : State) → AreWords c V number words → sizes_at t ≡ sizes_in c V → (v : ℕ) → v < length words → variable_words (written number words t) (number + v) ≡ get_or words v []
 written_at c V number [] t are sizes v low = absurd (omega (arith, low))
 written_at c V number (ws ∷ words) t are sizes zero low =
@@ -213,7 +216,7 @@ module _ (p : Program) (lane : Lane) (variables V : List Variable) (first : ℕ)
       (ap (λ ws. perform f lane n (set_inputs first parameters) (with_variable (first + d.variable) ws t)) (here i) ∙
       (ap (λ m. perform f lane n (set_inputs first parameters) (with_variable (first + m) (input_words p lane variables d) t)) numbered.0 ∙
       (inputs_run f n is_v is_threads (suc number) parameters (with_variable (first + number) (input_words p lane variables d) t) numbered.1 are.1 ∙
-      ap (λ m. goes_with flat_end (written m (inputs_words p lane variables parameters) (with_variable (first + number) (input_words p lane variables d) t))) (one_more first number))))
+      ap (λ m. goes_with flat_end (written m (inputs_words p lane variables parameters) (with_variable (first + number) (input_words p lane variables d) t))) (plus_suc first number))))
     where
       here : (i : Input variables d) → taken (map wrapped (semantic_components (grid_of f.threads) lane (Some i.semantic))) (variable_type f.variables (first + d.variable)) ≡ input_words p lane variables d
       here i =
@@ -223,7 +226,7 @@ module _ (p : Program) (lane : Lane) (variables V : List Variable) (first : ℕ)
   pub inputs_are : (c : Context) (number : ℕ) (parameters : List Parameter) → AreNumberedFrom number parameters → Every (IsInput variables) parameters → AreWords c V (first + number) (inputs_words p lane variables parameters)
   inputs_are c number [] numbered are = tt
   inputs_are c number (d ∷ parameters) numbered are =
-      (one (input_of variables d are.0), subst (λ m. AreWords c V m (inputs_words p lane variables parameters)) (one_more first number) (inputs_are c (suc number) parameters numbered.1 are.1))
+      (one (input_of variables d are.0), subst (λ m. AreWords c V m (inputs_words p lane variables parameters)) (plus_suc first number) (inputs_are c (suc number) parameters numbered.1 are.1))
     where
       one : Input variables d → (ty : Ty) × (variable_type V (first + number) ≡ Some ty) × (length (input_words p lane variables d) ≡ words_of c.scope.structs ty)
       one i =

@@ -321,7 +321,7 @@ mutual
   if_apart no_stmt declared v there = λ h. never h
   if_apart (some_stmt body) declared v there = stmt_apart body declared v there
 
-range_bounds : (from count x : ℕ) → In (range_with_len from count) x → (from ≤ x) × (x < from + count)
+pub range_bounds : (from count x : ℕ) → In (range_with_len from count) x → (from ≤ x) × (x < from + count)
 range_bounds from zero x h = never h
 range_bounds from (suc count) x h = by_case (in_cases from x (range_with_len (from + 1) count) h) (λ h. range_bounds (from + 1) count x h)
   where

@@ -285,7 +285,7 @@ module _ (p : Program) (well : IsWellFormed p) (V : List Variable) (f : Flat) (l
       }
         where
           by_side : (v : ℕ) → In (parameter_numbers d) v ⊎ In (early_variables d) v → variable_words (zeroed own.first (early_variables d) t) (own.first + v) ≡ variable_words (first_state (context_of p lane earlier d) d parameters x) v
-          by_side v (inl there) = parameter_same v (range_bounds 0 (length d.parameters) v there).1
+          by_side v (inl there) = parameter_same v (omega (arith, (range_bounds 0 (length d.parameters) v there).1))
           by_side v (inr there) = early_same v there
           by_known : (v : ℕ) → v < length d.variables → InOr (length d.variables) (known_at_start d) v → variable_words (zeroed own.first (early_variables d) t) (own.first + v) ≡ variable_words (first_state (context_of p lane earlier d) d parameters x) v
           by_known v low (inl there) = by_side v (in_append_cases (parameter_numbers d) (early_variables d) v there)

@@ -1,5 +1,5 @@
 -- A program without calls means what the program means that it was made of.
-use Rattle.std.proofs.Common.{◌≡◌, ◌∙◌, refl, sym, ap, subst, ℕ, zero, suc, ◌+◌, ◌<◌, ◌≤◌, List, [], ◌∷◌, ◌++◌, map, length, Option, None, Some, slice_get, unwrap_or, get_or, arith}
+use Rattle.std.proofs.Common.{◌≡◌, ◌∙◌, refl, sym, ap, subst, ℕ, zero, suc, ◌+◌, ◌<◌, ◌≤◌, false, List, [], ◌∷◌, ◌++◌, map, length, Option, None, Some, slice_get, unwrap_or, get_or, arith}
 use Rattle.std.specs.Prelude.{option_map, replicate, slice_index_or}
 use Rattle.std.proofs.lemmas.List.{append_assoc, length-append, length-map, length-replicate}
 use Rattle.std.proofs.lemmas.Bool.{true≢false}
@@ -192,11 +192,10 @@ module _ (p : Program) (well : IsWellFormed p) (lane : Lane) (n : ℕ) (replies 
   entry_same = ap flat_ended whole ∙ same_run (entry_of p lane n (inputs_words p lane d.variables d.parameters) (first_exchange replies)) (perform made lane n body with_inputs) runs
 
 pub keeps_meaning : KeepsMeaning
-unfolding flattened, flat_lane, source_lane
+unfolding flattened flat_lane source_lane
 keeps_meaning p well n lane replies = by_entry (slice_get p.functions p.entry) refl well.entry
   where
     by_entry : (o : Option FunctionDef) → slice_get p.functions p.entry ≡ o → IsEntryIf o → flat_lane (flattened p) n lane replies ≡ source_lane p n lane replies
-    unfolding flattened, flat_lane, source_lane
     by_entry None there h = absurd h
     by_entry (Some d) there h =
         ap Some (entry_same p well lane n replies d there h) ∙

@@ -15,3 +15,5 @@ pub mod Typed
 pub mod Covered
 pub mod Expressions
 pub mod KindParts
+pub mod ValueFits
+pub mod ReachedTypes

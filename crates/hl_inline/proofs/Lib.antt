@@ -17,3 +17,4 @@ pub mod Expressions
 pub mod KindParts
 pub mod ValueFits
 pub mod ReachedTypes
+pub mod IntrinsicFits

@@ -18,3 +18,4 @@ pub mod KindParts
 pub mod ValueFits
 pub mod ReachedTypes
 pub mod IntrinsicFits
+pub mod Sound

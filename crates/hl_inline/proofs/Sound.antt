@@ -206,12 +206,12 @@ convertible (vector_type kind size) (array_type element count) h = never h
 convertible (vector_type kind size) (struct_type number) h = never h
 convertible (array_type element count) to h = by_test (ty_eq (array_type element count) to) refl h
   where
-    by_test : (b : Bool) → ty_eq (array_type element count) to ≡ b → IsTrue (is_some (if b then Some 0 else None)) → (IsTrue (is_basic (array_type element count)) × IsTrue (is_basic to)) ⊎ IsTrue (ty_eq (array_type element count) to)
+    by_test : (b : Bool) → ty_eq (array_type element count) to ≡ b → IsTrue (is_some {T = ℕ} (if b then Some 0 else None)) → (IsTrue (is_basic (array_type element count)) × IsTrue (is_basic to)) ⊎ IsTrue (ty_eq (array_type element count) to)
     by_test true is h = inr is
     by_test false is h = never h
 convertible (struct_type number) to h = by_test (ty_eq (struct_type number) to) refl h
   where
-    by_test : (b : Bool) → ty_eq (struct_type number) to ≡ b → IsTrue (is_some (if b then Some 0 else None)) → (IsTrue (is_basic (struct_type number)) × IsTrue (is_basic to)) ⊎ IsTrue (ty_eq (struct_type number) to)
+    by_test : (b : Bool) → ty_eq (struct_type number) to ≡ b → IsTrue (is_some {T = ℕ} (if b then Some 0 else None)) → (IsTrue (is_basic (struct_type number)) × IsTrue (is_basic to)) ⊎ IsTrue (ty_eq (struct_type number) to)
     by_test true is h = inr is
     by_test false is h = never h
 
@@ -442,7 +442,7 @@ module _ (c : Context) (are : AreStructs c.scope.structs) (callees : CalleesFit 
   acts_fit ty (intrinsic_form number args) _ h values words s fits = intrinsic_fits c.scope.structs c number (types_of args) ty words s h.1 (fit_types c.scope.structs args words fits)
   acts_fit ty (method_form resource count address value) _ h values words s fits = method_fits resource count address value ty words s h.2 h.5 fits
   acts_fit ty (atomic_form target kind compare value original) _ h values words s fits =
-      subst (λ t. Yields (Fits c.scope.structs t) (acts c t (atomic_form target kind compare value original) (grouped (atomic_form target kind compare value original) words) s)) (sym h.0) (atomic_fits target kind compare value original _ s)
+      subst (λ t. Yields (Fits c.scope.structs t) (acts c t (atomic_form target kind compare value original) (grouped (atomic_form target kind compare value original) words) s)) (sym h.0) (atomic_fits target kind compare value original (grouped (atomic_form target kind compare value original) words) s)
 
   plain_sound : (ty : Ty) (at : ℕ) (form : Form) → is_call_form form ≡ false → Every IsSound (operand_exprs form) → IsSound (an_expr ty at form)
   plain_sound ty at form plain sound h s =

@@ -63,7 +63,7 @@ part_further structs whole middle part offset more p q = record {
 
 repeated_at : (count index : ℕ) (kinds : List Kind) → index < count → (front : List Kind) × (back : List Kind) × (repeated count kinds ≡ front ++ (kinds ++ back)) × (length front ≡ index * length kinds)
 repeated_at zero index kinds low = absurd (omega (arith, low))
-repeated_at (suc count) zero kinds low = ([], repeated count kinds, refl, refl)
+repeated_at (suc count) zero kinds low = ([], repeated count kinds, refl, omega arith)
 repeated_at (suc count) (suc index) kinds low =
     let rest = repeated_at count index kinds (omega (arith, low)) in
     (kinds ++ rest.0, rest.1, ap (λ k. kinds ++ k) rest.2 ∙ sym (append_assoc kinds rest.0 (kinds ++ rest.1)),

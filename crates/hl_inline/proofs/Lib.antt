@@ -15,6 +15,10 @@ pub mod Typed
 pub mod Covered
 pub mod Expressions
 pub mod KindParts
+pub mod ValueFits
+pub mod ReachedTypes
+pub mod IntrinsicFits
+pub mod Sound
 pub mod EarlyLemmas
 pub mod Statements
 pub mod Growth

@@ -220,7 +220,7 @@ index_part_at structs whole small from (vector_type kind size) index t is e lite
         (subst (λ x. PartOf structs x (literal_word index * words_of structs (scalar_type kind)) (scalar_type kind)) (sym is)
         (subst (λ n. PartOf structs (vector_type kind size) n (scalar_type kind)) one (part_component structs kind size (literal_word index) low)))
 
-pick_part : (structs : List StructDef) → AreStructs structs → (whole : Ty) → words_of structs whole ≤ most_words → (from : Reached) (parts : PathParts) (ty to : Ty) → from.ty ≡ ty → from.letters ≡ [] →
+pub pick_part : (structs : List StructDef) → AreStructs structs → (whole : Ty) → words_of structs whole ≤ most_words → (from : Reached) (parts : PathParts) (ty to : Ty) → from.ty ≡ ty → from.letters ≡ [] →
     path_type structs ty parts ≡ Some to → IsTrue (has_literal_indexes parts) → PartOf structs whole from.offset from.ty →
     PartOf structs whole (reached structs from parts (literal_indexes parts)).offset (reached structs from parts (literal_indexes parts)).ty
 pick_part structs are whole small from no_parts ty to is plain e literal p = p

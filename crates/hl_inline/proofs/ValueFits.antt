@@ -221,7 +221,7 @@ all_ok_holds P (Ok w ∷ rs) h = by_rest (all_ok rs) refl (all_ok_holds P rs h.1
     by_rest (Ok ws) is x = subst (OkHolds (λ ws. Every P ws × (length ws ≡ suc (length rs)))) (sym (all_ok_next w rs ws is)) ((h.0, x.0), ap suc x.1)
     by_rest (Err fault) is x = subst (OkHolds (λ ws. Every P ws × (length ws ≡ suc (length rs)))) (sym (all_ok_fault w rs fault is)) tt
 
-length-map_2 : {A : Type 0} (f : ℕ → ℕ → A) (xs ys : List ℕ) (n : ℕ) → length xs ≡ n → length ys ≡ n → length (map_2 f xs ys) ≡ n
+pub length-map_2 : {A : Type 0} (f : ℕ → ℕ → A) (xs ys : List ℕ) (n : ℕ) → length xs ≡ n → length ys ≡ n → length (map_2 f xs ys) ≡ n
 length-map_2 f [] [] n e e' = e
 length-map_2 f [] (y ∷ ys) n e e' = absurd (omega (arith, e, e'))
 length-map_2 f (x ∷ xs) [] n e e' = absurd (omega (arith, e, e'))

@@ -10,6 +10,8 @@ use Rattle.std.proofs.lemmas.Option.{none-some, same_Some}
 use Rattle.std.proofs.Math.Seq.{drop-append_seam, take-append_seam}
 use Rattle.lane_core.specs.Lane.{Exchange}
 use Rattle.lane_core.specs.declared.event.AtomicKind.{AtomicKind}
+use Rattle.lane_core.specs.declared.event.Event.TheVariants.{BufferLoad, BufferStore, SharedLoad}
+use Rattle.lane_core.specs.declared.event.Slot.{Slot}
 use Rattle.hl_meaning.specs.declared.ty.Kind.{Kind}
 use Rattle.hl_meaning.specs.declared.ty.Kind.TheVariants.{Bool as BoolKind, Int as IntKind, Uint as UintKind}
 use Rattle.hl_meaning.specs.Types.{Ty, array_type, component_count, components_type, is_basic, is_numeric, is_void, scalar_type, struct_type, ty_eq, uint_type, vector_type, void_type}
@@ -22,13 +24,13 @@ use Rattle.hl_meaning.specs.Places.{Scope, has_literal_indexes, path_type, root_
 use Rattle.hl_meaning.specs.WellFormed.{Assigns, IsDeclared, IsExpr, IsForm, IsLiteralOf, IsMethod, IsPlace, IsResult, IsType, callee_params, callee_result, most_words}
 use Rattle.hl_meaning.proofs.LayoutForms.{length-kinds_of}
 use Rattle.hl_meaning.proofs.LayoutLemmas.{words-void}
-use Rattle.lane_core.specs.Words.{holds, truth}
+use Rattle.lane_core.specs.Words.{holds, truth, wrapping_add}
 use Rattle.hl_source.specs.Operations.{binary_words, component_kind, converted, map_2, picked, resized, word_as}
-use Rattle.hl_source.specs.State.{Callee, Context, Progress, State, after, asks, each, ends_at, first_then, gives, goes_with, no_value, reply_words}
-use Rattle.hl_source.specs.Offsets.{Holder, Reached, in_constant, in_element, in_shared, in_variable, indexes_of_steps, literal_indexes, picked_at, picked_words, place_of, reached, start_of, type_of_root}
-use Rattle.hl_source.specs.Memory.{load_four, pieces, read_place, read_words, store_four, word_offsets, write_place}
+use Rattle.hl_source.specs.State.{Callee, Context, Progress, State, after, asks, asks_word, each, ends_at, first_then, gives, goes_with, no_value, reply_words, variable_words}
+use Rattle.hl_source.specs.Offsets.{Holder, Reached, in_constant, in_element, in_shared, in_variable, indexes_of_steps, literal_indexes, picked_at, picked_words, place_of, reached, slot_of, start_of, type_of_root}
+use Rattle.hl_source.specs.Memory.{byte_offset, cell, constant_words, load_four, pieces, read_place, read_words, shared_size, store_four, within, word_of, word_offsets, write_place}
 use Rattle.hl_source.specs.Intrinsics.{work_of, worked}
-use Rattle.hl_source.specs.Expressions.{acts, arguments, assigned, assigns, calls, copies_out, evaluates, no_callee, operands, parameters_of, read_if, starts, write_if}
+use Rattle.hl_source.specs.Expressions.{acts, arguments, assigned, atomic_original, assigns, calls, copies_out, evaluates, no_callee, operands, parameters_of, read_if, starts, write_if}
 use Rattle.hl_inline.specs.Operands.{expr_if_list, exprs_list, operand_exprs, place_exprs, target_exprs}
 use Rattle.hl_inline.proofs.Induction.{Every, Step, by_operands, every_back}
 use Rattle.hl_inline.proofs.ProgressLemmas.{after_giving, giving}
@@ -64,15 +66,23 @@ concat_long n (ws ∷ words) h = length-append ws (concat words) ∙ (ap (λ k. 
 enough_pieces : (count : ℕ) → count ≤ div_ceil count 4 * 4
 enough_pieces count = omega arith
 
+offsets_long : (part : ℕ → State → Progress ℕ) (offset count : ℕ) (s : State) → Yields (λ ws. length ws ≡ count) (each part (word_offsets offset count) s)
+offsets_long part offset count s =
+    subst (λ n. Yields (λ ws. length ws ≡ n) (each part (word_offsets offset count) s)) (length-map-range_with_len (wrapping_add offset) 0 count) (each_long part (word_offsets offset count) s)
+
+four_long : (slot : Slot) (index at : ℕ) (s : State) → Yields (λ ws. length ws ≡ 4) (load_four slot index at s)
+four_long slot index at s =
+    yields_giving (λ r. Unit {0}) (λ ws. length ws ≡ 4) (reply_words 4) (λ r h. refl) (asks (BufferLoad slot index at) s) (yields_any (λ r. Unit {0}) (λ r. tt) (asks (BufferLoad slot index at) s))
+
 pub read_long : (c : Context) (holder : Holder) (offset count : ℕ) (s : State) → Yields (λ ws. length ws ≡ count) (read_words c holder offset count s)
-read_long c (in_variable number) offset count s = yields_map _ _ (λ ws e. e ∙ length-map-range_with_len _ 0 count) _ (each_long _ (word_offsets offset count) s)
-read_long c (in_constant number) offset count s = yields_map _ _ (λ ws e. e ∙ length-map-range_with_len _ 0 count) _ (each_long _ (word_offsets offset count) s)
-read_long c (in_shared number) offset count s = yields_map _ _ (λ ws e. e ∙ length-map-range_with_len _ 0 count) _ (each_long _ (word_offsets offset count) s)
+read_long c (in_variable number) offset count s = offsets_long (word_of (variable_words s number)) offset count s
+read_long c (in_constant number) offset count s = offsets_long (word_of (constant_words c number)) offset count s
+read_long c (in_shared number) offset count s = offsets_long (λ at. within at (shared_size c number) (asks_word (SharedLoad (cell number at)))) offset count s
 read_long c (in_element slot index) offset count s =
     yields_giving (λ fours. (length fours ≡ length (pieces count)) × Every (λ ws. length ws ≡ 4) fours) (λ ws. length ws ≡ count) (λ fours. take count (concat fours))
         (λ fours r. length-take count (concat fours) ∙ omega (arith, concat_long 4 fours r.1, r.0, length-map-range_with_len (λ piece. 4 * piece) 0 (div_ceil count 4), enough_pieces count))
-        (each _ (pieces count) s)
-        (each_holds (λ ws. length ws ≡ 4) _ (λ piece s1. yields_giving (λ r. Unit {0}) (λ ws. length ws ≡ 4) (reply_words 4) (λ r h. refl) (asks _ s1) (yields_any (λ r. Unit {0}) (λ r. tt) (asks _ s1))) (pieces count) s)
+        (each (λ piece. load_four slot index (byte_offset offset piece)) (pieces count) s)
+        (each_holds (λ ws. length ws ≡ 4) (λ piece. load_four slot index (byte_offset offset piece)) (λ piece s1. four_long slot index (byte_offset offset piece) s1) (pieces count) s)
 
 -- picked letters
 
@@ -196,12 +206,12 @@ convertible (vector_type kind size) (array_type element count) h = never h
 convertible (vector_type kind size) (struct_type number) h = never h
 convertible (array_type element count) to h = by_test (ty_eq (array_type element count) to) refl h
   where
-    by_test : (b : Bool) → ty_eq (array_type element count) to ≡ b → IsTrue (is_some (if b then Some 0 else None)) → (IsTrue (is_basic (array_type element count)) × IsTrue (is_basic to)) ⊎ IsTrue (ty_eq (array_type element count) to)
+    by_test : (b : Bool) → ty_eq (array_type element count) to ≡ b → IsTrue (is_some {T = ℕ} (if b then Some 0 else None)) → (IsTrue (is_basic (array_type element count)) × IsTrue (is_basic to)) ⊎ IsTrue (ty_eq (array_type element count) to)
     by_test true is h = inr is
     by_test false is h = never h
 convertible (struct_type number) to h = by_test (ty_eq (struct_type number) to) refl h
   where
-    by_test : (b : Bool) → ty_eq (struct_type number) to ≡ b → IsTrue (is_some (if b then Some 0 else None)) → (IsTrue (is_basic (struct_type number)) × IsTrue (is_basic to)) ⊎ IsTrue (ty_eq (struct_type number) to)
+    by_test : (b : Bool) → ty_eq (struct_type number) to ≡ b → IsTrue (is_some {T = ℕ} (if b then Some 0 else None)) → (IsTrue (is_basic (struct_type number)) × IsTrue (is_basic to)) ⊎ IsTrue (ty_eq (struct_type number) to)
     by_test true is h = inr is
     by_test false is h = never h
 
@@ -338,6 +348,10 @@ result_small structs (struct_type number) h = h.1
 place_typed : (s : Scope) (place : Location) → IsPlace s place → IsType s.structs (place_type place)
 place_typed s (a_location ty root parts) h = h.0.0
 
+-- a part without a value
+nothing_given : {A : Type 0} (structs : List StructDef) (p : Progress A) → Yields (Fits structs void_type) (no_value p)
+nothing_given structs p = yields_giving (λ a. Unit {0}) (Fits structs void_type) (λ a. []) (λ a x. nothing_fits structs) p (yields_any (λ a. Unit {0}) (λ a. tt) p)
+
 -- each function that may be called gives words of the type of its result
 abbrev pub CalleesFit : Context → Type 0
 CalleesFit c =
@@ -359,8 +373,8 @@ module _ (c : Context) (are : AreStructs c.scope.structs) (callees : CalleesFit 
       let one = one_fit c.scope.structs address words fits in
       subst (λ l. Yields (Fits c.scope.structs ty) (acts c ty (method_form resource count address no_expr) l s)) (sym one.1)
       (subst (λ t. Yields (Fits c.scope.structs t) (acts c t (method_form resource count address no_expr) (one.0 ∷ []) s)) (sym h)
-      (yields_giving (λ ws. length ws ≡ 4) (Fits c.scope.structs (components_type UintKind count)) (take count) (λ ws e. loaded count ws low e) (load_four _ _ 0 s)
-          (yields_giving (λ r. Unit {0}) (λ ws. length ws ≡ 4) (reply_words 4) (λ r x. refl) (asks _ s) (yields_any (λ r. Unit {0}) (λ r. tt) (asks _ s)))))
+      (yields_giving (λ ws. length ws ≡ 4) (Fits c.scope.structs (components_type UintKind count)) (take count) (λ ws e. loaded count ws low e) (load_four (slot_of c resource) (slice_index one.0 0) 0 s)
+          (four_long (slot_of c resource) (slice_index one.0 0) 0 s)))
     where
       loaded : (count : ℕ) (ws : List ℕ) → count ≤ 4 → length ws ≡ 4 → Fits c.scope.structs (components_type UintKind count) (take count ws)
       loaded count ws low e =
@@ -373,12 +387,9 @@ module _ (c : Context) (are : AreStructs c.scope.structs) (callees : CalleesFit 
       let two = two_fit c.scope.structs address value words fits in
       subst (λ l. Yields (Fits c.scope.structs ty) (acts c ty (method_form resource count address (some_expr value)) l s)) (sym two.2)
       (subst (λ t. Yields (Fits c.scope.structs t) (acts c t (method_form resource count address (some_expr value)) (two.0 ∷ two.1 ∷ []) s)) (sym h.0)
-      (yields_giving (λ r. Unit {0}) (Fits c.scope.structs void_type) (λ r. []) (λ r x. nothing_fits c.scope.structs) (asks _ s) (yields_any (λ r. Unit {0}) (λ r. tt) (asks _ s))))
+      (nothing_given c.scope.structs (asks (BufferStore (slot_of c resource) (slice_index two.0 0) 0 (length two.1) (take 4 (two.1 ++ replicate 4 0))) s)))
 
   -- an atomic operation gives no value
-  nothing_given : {A : Type 0} (p : Progress A) → Yields (Fits c.scope.structs void_type) (no_value p)
-  nothing_given p = yields_giving (λ a. Unit {0}) (Fits c.scope.structs void_type) (λ a. []) (λ a x. nothing_fits c.scope.structs) p (yields_any (λ a. Unit {0}) (λ a. tt) p)
-
   atomic_fits : (target : Target) (kind : Option AtomicKind) (compare : MaybeExpr) (value : Expr) (original : MaybeLocation) (words : List (List ℕ)) (s : State) →
       Yields (Fits c.scope.structs void_type) (acts c void_type (atomic_form target kind compare value original) words s)
   atomic_fits target kind compare value original [] s = nothing_fits c.scope.structs
@@ -386,7 +397,8 @@ module _ (c : Context) (are : AreStructs c.scope.structs) (callees : CalleesFit 
   atomic_fits target kind compare value original (x ∷ y ∷ []) s = nothing_fits c.scope.structs
   atomic_fits target kind compare value original (x ∷ y ∷ z ∷ []) s = nothing_fits c.scope.structs
   atomic_fits target kind compare value original (x ∷ y ∷ z ∷ q ∷ []) s =
-      yields_after (λ w. Unit {0}) (Fits c.scope.structs void_type) _ _ (yields_any (λ w. Unit {0}) (λ w. tt) _) (λ w s1 h. nothing_given _)
+      yields_after (λ w. Unit {0}) (Fits c.scope.structs void_type) (atomic_original c target kind x (slice_index y 0) (slice_index z 0) s) (λ before s1. no_value (write_if c original q (before ∷ []) s1))
+          (yields_any (λ w. Unit {0}) (λ w. tt) (atomic_original c target kind x (slice_index y 0) (slice_index z 0) s)) (λ before s1 h. nothing_given c.scope.structs (write_if c original q (before ∷ []) s1))
   atomic_fits target kind compare value original (x ∷ y ∷ z ∷ q ∷ p ∷ words) s = nothing_fits c.scope.structs
 
   -- a form that isn't a call, on words that fit its operands
@@ -430,7 +442,7 @@ module _ (c : Context) (are : AreStructs c.scope.structs) (callees : CalleesFit 
   acts_fit ty (intrinsic_form number args) _ h values words s fits = intrinsic_fits c.scope.structs c number (types_of args) ty words s h.1 (fit_types c.scope.structs args words fits)
   acts_fit ty (method_form resource count address value) _ h values words s fits = method_fits resource count address value ty words s h.2 h.5 fits
   acts_fit ty (atomic_form target kind compare value original) _ h values words s fits =
-      subst (λ t. Yields (Fits c.scope.structs t) (acts c t (atomic_form target kind compare value original) (grouped (atomic_form target kind compare value original) words) s)) (sym h.0) (atomic_fits target kind compare value original _ s)
+      subst (λ t. Yields (Fits c.scope.structs t) (acts c t (atomic_form target kind compare value original) (grouped (atomic_form target kind compare value original) words) s)) (sym h.0) (atomic_fits target kind compare value original (grouped (atomic_form target kind compare value original) words) s)
 
   plain_sound : (ty : Ty) (at : ℕ) (form : Form) → is_call_form form ≡ false → Every IsSound (operand_exprs form) → IsSound (an_expr ty at form)
   plain_sound ty at form plain sound h s =

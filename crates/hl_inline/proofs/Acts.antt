@@ -1,21 +1,19 @@
 -- A form acts alike in a program and in one without calls, on the same words of its operands.
-use Rattle.std.proofs.Common.{◌≡◌, ◌∙◌, refl, sym, ap, subst, ℕ, suc, ◌+◌, Bool, true, false, List, [], ◌∷◌, map, length, drop, Option, None, Some, Result, Ok, Err, arith}
+use Rattle.std.proofs.Common.{◌≡◌, refl, sym, subst, ℕ, Bool, false, List, [], ◌∷◌, map, Option, None, Some, Result, Ok, Err}
 use Rattle.std.specs.Prelude.{if◌then◌else◌, slice_index, take}
-use Rattle.std.specs.List.{concat}
 use Rattle.std.proofs.lemmas.Bool.{true≢false}
 use Rattle.lane_core.specs.declared.event.AtomicKind.{AtomicKind}
 use Rattle.lane_core.specs.declared.event.LaneFault.{LaneFault}
 use Rattle.lane_core.specs.declared.event.WaveKind.{WaveKind}
 use Rattle.hl_meaning.specs.declared.ty.Kind.{Kind}
 use Rattle.hl_meaning.specs.Types.{Ty}
-use Rattle.hl_meaning.specs.Trees.{Expr, Form, Location, MaybeExpr, MaybeLocation, Target, a_location, an_expr, atomic_form, binary_form, build_form, bytes_target, call_form, choose_form, convert_form, intrinsic_form, literal_form, method_form, no_expr, no_location, pick_form, place_target, place_type, read_form, some_expr, some_location, type_of, unary_form, write_form}
+use Rattle.hl_meaning.specs.Trees.{Expr, Form, Location, MaybeLocation, Target, a_location, atomic_form, binary_form, build_form, bytes_target, call_form, choose_form, convert_form, intrinsic_form, literal_form, method_form, no_expr, no_location, pick_form, place_target, place_type, read_form, some_expr, some_location, type_of, unary_form, write_form}
 use Rattle.hl_meaning.specs.Programs.{Variable}
 use Rattle.lane_core.specs.Words.{wrapped}
-use Rattle.hl_source.specs.Operations.{binary_words, chosen_word, component_kind, converted, map_3, unary_word}
-use Rattle.hl_source.specs.State.{Context, Progress, State, after, asks, each, faults, gives, goes_with, no_value, reply_word, reply_words}
-use Rattle.hl_source.specs.Offsets.{picked_words, place_of, slot_of}
-use Rattle.hl_source.specs.Memory.{atomic_address, atomic_word, load_four, read_place, store_four, write_place}
-use Rattle.hl_source.specs.Intrinsics.{Work, barrier, from_all, from_one, from_three, from_two, of_lane, own_form, wave, wave_alone, wave_at, wave_four, wave_word, wave_words, work_of, worked}
+use Rattle.hl_source.specs.Operations.{binary_words, component_kind, converted}
+use Rattle.hl_source.specs.State.{Context, State, gives, goes_with, reply_words}
+use Rattle.hl_source.specs.Offsets.{picked_words}
+use Rattle.hl_source.specs.Intrinsics.{Work, barrier, from_all, from_one, from_three, from_two, of_lane, own_form, wave, wave_alone, wave_at, wave_four, wave_words, work_of, worked}
 use Rattle.hl_source.specs.Expressions.{acts, assigned, assigns, atomic_original, read_if, write_if}
 use Rattle.hl_inline.specs.Operands.{filled, filled_place, filled_place_if, filled_target, first_expr, operand_exprs}
 use Rattle.hl_inline.proofs.OperandLemmas.{is_call_form}

@@ -1,10 +1,9 @@
 -- What a program without calls does first: constants are set, and the parameters of the entry get their semantics.
-use Rattle.std.proofs.Common.{◌≡◌, ◌∙◌, refl, sym, ap, subst, ℕ, zero, suc, ◌+◌, ◌<◌, ◌≤◌, ◌⊎◌, inl, inr, Bool, true, false, List, [], ◌∷◌, ◌++◌, map, length, Option, None, Some, slice_get, unwrap_or, get_or, arith}
+use Rattle.std.proofs.Common.{◌≡◌, ◌∙◌, refl, sym, ap, subst, ℕ, zero, suc, ◌+◌, ◌<◌, ◌≤◌, Bool, true, false, List, [], ◌∷◌, map, length, Option, None, Some, slice_get, unwrap_or, get_or, arith}
 use Rattle.std.specs.Prelude.{◌&&◌, IsTrue, option_map, take}
 use Rattle.std.specs.Option.{option_map_or}
 use Rattle.std.specs.List.{concat}
-use Rattle.std.proofs.lemmas.List.{length-map, length-take-le}
-use Rattle.std.proofs.lemmas.Option.{unwrap_or-slice_get}
+use Rattle.std.proofs.lemmas.List.{length-take-le}
 use Rattle.lane_core.specs.Lane.{Coordinates, Lane}
 use Rattle.lane_core.specs.Words.{wrapped}
 use Rattle.hl_meaning.specs.declared.ty.Kind.{Kind}
@@ -24,14 +23,13 @@ use Rattle.hl_source.specs.State.{Context, Progress, State, after, goes_with, va
 use Rattle.hl_source.specs.Statements.{at_end}
 use Rattle.hl_source.specs.Expressions.{acts, evaluates, values}
 use Rattle.hl_source.specs.SourceLane.{grid_of, input_words, semantic_components}
-use Rattle.hl_inline.specs.FlatTrees.{Flat, FlatStmt, flat_input}
+use Rattle.hl_inline.specs.FlatTrees.{Flat, flat_input}
 use Rattle.hl_inline.specs.FlatLane.{FlatLeaving, flat_context, flat_end, then_flat}
 use Rattle.hl_inline.specs.Flattening.{constant_value, literals, set_constants, set_inputs}
 use Rattle.hl_inline.proofs.Induction.{Every}
 use Rattle.hl_inline.proofs.Relation.{count_by_sizes, sizes_at, sizes_in, sizes_set, words_set_other, words_set_same}
 use Rattle.hl_inline.proofs.Performing.{perform}
 use Rattle.hl_inline.proofs.Emission.{type_there, variable_size}
-use Rattle.hl_inline.proofs.Passing.{HeldAs}
 use Rattle.hl_inline.proofs.Typed.{never}
 
 -- variables that are set one after another
@@ -105,7 +103,7 @@ literals_give c at (kind ∷ kinds) (w ∷ words) s e =
 constant_gives : (c : Context) (structs : List StructDef) (k : Constant) (s : State) → IsConstant structs k → evaluates c (constant_value structs k) s ≡ goes_with k.words s
 constant_gives c structs k s is =
     ap (λ p. after p (acts c k.variable.ty (build_form (exprs_of (literals k.variable.at (kinds_of structs k.variable.ty) k.words)))))
-        (literals_give c k.variable.at (kinds_of structs k.variable.ty) k.words s (hold_length (kinds_of structs k.variable.ty) k.words is.words)) ∙
+    (literals_give c k.variable.at (kinds_of structs k.variable.ty) k.words s (hold_length (kinds_of structs k.variable.ty) k.words is.words)) ∙
     ap (λ ws. goes_with ws s) (concat_ones k.words)
 
 abbrev pub constants_words : List Constant → List (List ℕ)
@@ -124,10 +122,14 @@ constants_run f lane n structs number (k ∷ constants) t are =
 pub constants_are : (c : Context) (V : List Variable) (number : ℕ) (constants : List Constant) → Every (IsConstant c.scope.structs) constants →
     ((k : ℕ) (ty : Ty) → option_map (λ d. d.variable.ty) (slice_get constants k) ≡ Some ty → variable_type V (number + k) ≡ Some ty) → AreWords c V number (constants_words constants)
 constants_are c V number [] are typed = tt
-constants_are c V number (k ∷ constants) are typed =
-    ((k.variable.ty, subst (λ m. variable_type V m ≡ Some k.variable.ty) (nothing_more number) (typed 0 k.variable.ty refl),
-        hold_length (kinds_of c.scope.structs k.variable.ty) k.words are.0.words ∙ length-kinds_of c.scope.structs k.variable.ty),
-    constants_are c V (suc number) constants are.1 (λ j ty e. subst (λ m. variable_type V m ≡ Some ty) (one_more number j) (typed (suc j) ty e)))
+constants_are c V number (k ∷ constants) are typed = (
+  (
+    k.variable.ty,
+    subst (λ m. variable_type V m ≡ Some k.variable.ty) (nothing_more number) (typed 0 k.variable.ty refl),
+    hold_length (kinds_of c.scope.structs k.variable.ty) k.words are.0.words ∙ length-kinds_of c.scope.structs k.variable.ty,
+  ),
+  constants_are c V (suc number) constants are.1 (λ j ty e. subst (λ m. variable_type V m ≡ Some ty) (one_more number j) (typed (suc j) ty e)),
+)
 
 pub constants_get : (constants : List Constant) (k : ℕ) → get_or (constants_words constants) k [] ≡ option_map_or (λ d. d.words) (slice_get constants k) []
 constants_get [] k = refl
@@ -229,6 +231,8 @@ module _ (p : Program) (lane : Lane) (variables V : List Variable) (first : ℕ)
       (one (input_of variables d are.0), subst (λ m. AreWords c V m (inputs_words p lane variables parameters)) (plus_suc first number) (inputs_are c (suc number) parameters numbered.1 are.1))
     where
       one : Input variables d → (ty : Ty) × (variable_type V (first + number) ≡ Some ty) × (length (input_words p lane variables d) ≡ words_of c.scope.structs ty)
-      one i =
-          (i.ty, typed number i.ty (subst (λ m. variable_type variables m ≡ Some i.ty) numbered.0 i.is_typed),
-          ap length (input_is d i) ∙ (components_length (grid_of p.threads) lane i.semantic i.ty i.suits ∙ numeric_words c.scope.structs i.ty (suits_numeric i.semantic i.ty i.suits)))
+      one i = (
+        i.ty,
+        typed number i.ty (subst (λ m. variable_type variables m ≡ Some i.ty) numbered.0 i.is_typed),
+        ap length (input_is d i) ∙ (components_length (grid_of p.threads) lane i.semantic i.ty i.suits ∙ numeric_words c.scope.structs i.ty (suits_numeric i.semantic i.ty i.suits)),
+      )

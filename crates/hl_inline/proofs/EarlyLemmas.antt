@@ -1,15 +1,13 @@
 -- Variables that are declared, or may be reached before, are all that statements reach.
-use Rattle.std.proofs.Common.{◌≡◌, ◌∙◌, refl, sym, ap, subst, ℕ, zero, suc, ◌+◌, ◌-◌, ◌<◌, ◌≤◌, ◌⊎◌, inl, inr, Bool, true, false, List, [], ◌∷◌, ◌++◌, map, length, Option, None, Some, arith}
-use Rattle.std.specs.Prelude.{◌==◌, ◌&&◌, ◌||◌, cond, filter, filter_map, not, IsTrue}
-use Rattle.std.specs.List.{list_any, range_with_len}
+use Rattle.std.proofs.Common.{◌≡◌, ◌∙◌, refl, sym, ap, subst, ℕ, zero, suc, ◌+◌, ◌<◌, ◌≤◌, ◌⊎◌, inl, inr, Bool, true, false, List, [], ◌∷◌, ◌++◌, length, arith}
+use Rattle.std.specs.Prelude.{◌==◌, ◌||◌, cond, filter, filter_map, not, IsTrue}
+use Rattle.std.specs.List.{range_with_len}
 use Rattle.std.proofs.lemmas.Bool.{cases_eq, cases_lt, eq-eqb, eqb-true, or_cases, true≢false}
-use Rattle.hl_meaning.specs.Trees.{MaybeStmt, PathParts, Root, Stmt, Stmts, block_stmt, break_stmt, constant_root, continue_stmt, do_stmt, element_root, for_stmt, if_stmt, local_stmt, more_stmts, no_stmt, no_stmts, return_stmt, run_stmt, shared_root, some_stmt, variable_root, while_stmt}
+use Rattle.hl_meaning.specs.Trees.{MaybeStmt, Stmt, Stmts, block_stmt, break_stmt, constant_root, continue_stmt, do_stmt, element_root, for_stmt, if_stmt, local_stmt, more_stmts, no_stmt, no_stmts, return_stmt, run_stmt, shared_root, some_stmt, variable_root, while_stmt}
 use Rattle.hl_meaning.specs.Programs.{FunctionDef}
 use Rattle.hl_inline.specs.IndexedVariables.{Mention, call_mention, expr_mentions, expr_option_mentions, place_mention}
 use Rattle.hl_inline.specs.Early.{declared_by, declared_in, early, early_if, early_in, early_variables, is_in, parameter_numbers, undeclared, variable_of}
-use Rattle.hl_inline.proofs.Induction.{Every}
-use Rattle.hl_inline.proofs.Reading.{IsInD}
-use Rattle.hl_inline.proofs.Covered.{Covers, MentionIn}
+use Rattle.hl_inline.proofs.Covered.{Covers}
 use Rattle.hl_inline.proofs.Typed.{never}
 
 -- a number is among some
@@ -125,6 +123,7 @@ declared_more b declared known (local_stmt variable init) h v there = by_case (i
     by_known : InOr b known v → InOr b (variable ∷ known) v
     by_known (inl i) = inl (in_rest variable v known i)
     by_known (inr i) = inr i
+
     by_case : (v ≡ variable) ⊎ In declared v → InOr b (variable ∷ known) v
     by_case (inl e) = inl (subst (λ z. In (z ∷ known) v) e (in_first v known))
     by_case (inr i) = by_known (h v i)
@@ -172,36 +171,41 @@ mutual
   stmt_covered b (local_stmt variable init) declared known d e = text_covered b declared known (expr_option_mentions init) d e
   stmt_covered b (run_stmt value) declared known d e = text_covered b declared known (expr_mentions value) d e
   stmt_covered b (if_stmt cond consequent alternative) declared known d e =
-      let rest = within_back b (undeclared declared (expr_mentions cond)) (early declared consequent ++ early_if declared alternative) known e in
-      (text_covered b declared known (expr_mentions cond) d (within_front b (undeclared declared (expr_mentions cond)) (early declared consequent ++ early_if declared alternative) known e),
-      stmt_covered b consequent declared known d (within_front b (early declared consequent) (early_if declared alternative) known rest),
-      if_covered b alternative declared known d (within_back b (early declared consequent) (early_if declared alternative) known rest))
+      let rest = within_back b (undeclared declared (expr_mentions cond)) (early declared consequent ++ early_if declared alternative) known e in (
+        text_covered b declared known (expr_mentions cond) d (within_front b (undeclared declared (expr_mentions cond)) (early declared consequent ++ early_if declared alternative) known e),
+        stmt_covered b consequent declared known d (within_front b (early declared consequent) (early_if declared alternative) known rest),
+        if_covered b alternative declared known d (within_back b (early declared consequent) (early_if declared alternative) known rest),
+      )
   stmt_covered b (for_stmt init cond step body) declared known d e =
       let inner = declared_in declared init in
       let all = declared_in known init in
       let d' = declared_all_more b declared known init d in
       let behind = within_back b (early_in declared init) (undeclared inner (expr_option_mentions cond) ++ (undeclared inner (expr_option_mentions step) ++ early inner body)) known e in
-      let behind_cond = within_back b (undeclared inner (expr_option_mentions cond)) (undeclared inner (expr_option_mentions step) ++ early inner body) known behind in
-      (all_covered b init declared known d (within_front b (early_in declared init) (undeclared inner (expr_option_mentions cond) ++ (undeclared inner (expr_option_mentions step) ++ early inner body)) known e),
-      text_covered b inner all (expr_option_mentions cond) d' (within_all_more b (undeclared inner (expr_option_mentions cond)) known init (within_front b (undeclared inner (expr_option_mentions cond)) (undeclared inner (expr_option_mentions step) ++ early inner body) known behind)),
-      text_covered b inner all (expr_option_mentions step) d' (within_all_more b (undeclared inner (expr_option_mentions step)) known init (within_front b (undeclared inner (expr_option_mentions step)) (early inner body) known behind_cond)),
-      stmt_covered b body inner all d' (within_all_more b (early inner body) known init (within_back b (undeclared inner (expr_option_mentions step)) (early inner body) known behind_cond)))
-  stmt_covered b (while_stmt cond body) declared known d e =
-      (text_covered b declared known (expr_mentions cond) d (within_front b (undeclared declared (expr_mentions cond)) (early declared body) known e),
-      stmt_covered b body declared known d (within_back b (undeclared declared (expr_mentions cond)) (early declared body) known e))
-  stmt_covered b (do_stmt body cond) declared known d e =
-      (stmt_covered b body declared known d (within_front b (early declared body) (undeclared declared (expr_mentions cond)) known e),
-      text_covered b declared known (expr_mentions cond) d (within_back b (early declared body) (undeclared declared (expr_mentions cond)) known e))
+      let behind_cond = within_back b (undeclared inner (expr_option_mentions cond)) (undeclared inner (expr_option_mentions step) ++ early inner body) known behind in (
+        all_covered b init declared known d (within_front b (early_in declared init) (undeclared inner (expr_option_mentions cond) ++ (undeclared inner (expr_option_mentions step) ++ early inner body)) known e),
+        text_covered b inner all (expr_option_mentions cond) d' (within_all_more b (undeclared inner (expr_option_mentions cond)) known init (within_front b (undeclared inner (expr_option_mentions cond)) (undeclared inner (expr_option_mentions step) ++ early inner body) known behind)),
+        text_covered b inner all (expr_option_mentions step) d' (within_all_more b (undeclared inner (expr_option_mentions step)) known init (within_front b (undeclared inner (expr_option_mentions step)) (early inner body) known behind_cond)),
+        stmt_covered b body inner all d' (within_all_more b (early inner body) known init (within_back b (undeclared inner (expr_option_mentions step)) (early inner body) known behind_cond)),
+      )
+  stmt_covered b (while_stmt cond body) declared known d e = (
+    text_covered b declared known (expr_mentions cond) d (within_front b (undeclared declared (expr_mentions cond)) (early declared body) known e),
+    stmt_covered b body declared known d (within_back b (undeclared declared (expr_mentions cond)) (early declared body) known e),
+  )
+  stmt_covered b (do_stmt body cond) declared known d e = (
+    stmt_covered b body declared known d (within_front b (early declared body) (undeclared declared (expr_mentions cond)) known e),
+    text_covered b declared known (expr_mentions cond) d (within_back b (early declared body) (undeclared declared (expr_mentions cond)) known e),
+  )
   stmt_covered b break_stmt declared known d e = tt
   stmt_covered b continue_stmt declared known d e = tt
   stmt_covered b (return_stmt value) declared known d e = text_covered b declared known (expr_option_mentions value) d e
 
   pub all_covered : (b : ℕ) (stmts : Stmts) (declared known : List ℕ) → Within b declared known → Within b (early_in declared stmts) known → CoveredAll b known stmts
   all_covered b no_stmts declared known d e = tt
-  all_covered b (more_stmts first rest) declared known d e =
-      (stmt_covered b first declared known d (within_front b (early declared first) (early_in (declared_by declared first) rest) known e),
-      all_covered b rest (declared_by declared first) (declared_by known first) (declared_more b declared known first d)
-          (within_more b (early_in (declared_by declared first) rest) known first (within_back b (early declared first) (early_in (declared_by declared first) rest) known e)))
+  all_covered b (more_stmts first rest) declared known d e = (
+    stmt_covered b first declared known d (within_front b (early declared first) (early_in (declared_by declared first) rest) known e),
+    all_covered b rest (declared_by declared first) (declared_by known first) (declared_more b declared known first d)
+        (within_more b (early_in (declared_by declared first) rest) known first (within_back b (early declared first) (early_in (declared_by declared first) rest) known e)),
+  )
 
   pub if_covered : (b : ℕ) (stmt : MaybeStmt) (declared known : List ℕ) → Within b declared known → Within b (early_if declared stmt) known → CoveredIf b known stmt
   if_covered b no_stmt declared known d e = tt
@@ -222,8 +226,8 @@ function_covered f =
         by_case (inr past) = inr past
         by_case (inl here) =
             inl (in_back (parameter_numbers f) (early_variables f) v
-                (in_filter (λ number. is_in (early_in (parameter_numbers f) f.body) number) (range_with_len 0 (length f.variables)) v
-                    (in_range 0 (length f.variables) v (omega arith) (omega (arith, here))) there))
+            (in_filter (λ number. is_in (early_in (parameter_numbers f) f.body) number) (range_with_len 0 (length f.variables)) v
+            (in_range 0 (length f.variables) v (omega arith) (omega (arith, here))) there))
 
 -- what is declared isn't reached before its declaration
 
@@ -234,6 +238,7 @@ in_append_cases (y ∷ xs) ys x h = by_case (in_cases y x (xs ++ ys) h) (λ h. i
     by_rest : In xs x ⊎ In ys x → In (y ∷ xs) x ⊎ In ys x
     by_rest (inl h) = inl (in_rest y x xs h)
     by_rest (inr h) = inr h
+
     by_case : (x ≡ y) ⊎ In (xs ++ ys) x → (In (xs ++ ys) x → In xs x ⊎ In ys x) → In (y ∷ xs) x ⊎ In ys x
     by_case (inl e) next = inl (subst (λ z. In (z ∷ xs) x) e (in_first x xs))
     by_case (inr h) next = by_rest (next h)

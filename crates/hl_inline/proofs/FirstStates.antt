@@ -1,5 +1,5 @@
 -- The first state of a function, and what stands in the variables of the function in place where its body begins.
-use Rattle.std.proofs.Common.{◌≡◌, ◌∙◌, refl, sym, ap, subst, ℕ, zero, suc, ◌+◌, ◌<◌, ◌≤◌, ◌⊎◌, inl, inr, List, [], ◌∷◌, ◌++◌, map, length, Option, None, Some, get_or, arith}
+use Rattle.std.proofs.Common.{◌≡◌, ◌∙◌, refl, sym, ap, subst, ℕ, zero, suc, ◌+◌, ◌<◌, ◌≤◌, ◌⊎◌, inl, inr, List, [], ◌∷◌, ◌++◌, map, length, None, Some, get_or, arith}
 use Rattle.std.specs.Prelude.{drop, replicate}
 use Rattle.std.proofs.lemmas.List.{length-map, length-replicate, length-set}
 use Rattle.std.proofs.lemmas.Bool.{cases_eq}
@@ -86,8 +86,8 @@ zeroed_at first (u ∷ vs) t v there low =
         variable_words (zeroed first vs (cleared (first + u) t)) (first + v) ≡ zeros (variable_words t (first + v))
     by_case (inl is) either next =
         zeroed_stays first vs (cleared (first + u) t) (first + v) (variable_words t (first + v))
-            (subst (λ m. variable_words (cleared (first + m) t) (first + v) ≡ zeros (variable_words t (first + v))) is (words_set_same (first + v) (zeros (variable_words t (first + v))) t low))
-            (cleared_low (first + u) (first + v) t low)
+        (subst (λ m. variable_words (cleared (first + m) t) (first + v) ≡ zeros (variable_words t (first + v))) is (words_set_same (first + v) (zeros (variable_words t (first + v))) t low))
+        (cleared_low (first + u) (first + v) t low)
     by_case (inr apart) (inl is) next = absurd (apart is)
     by_case (inr apart) (inr h) next =
         next h ∙ ap zeros (words_set_other (first + u) (first + v) (zeros (variable_words t (first + u))) t (λ is. apart (omega (arith, is))))
@@ -114,9 +114,9 @@ first_sizes c V t first vs (p ∷ parameters) [] sizes fewer exact held typed = 
 first_sizes c V t first [] (p ∷ parameters) (w ∷ words) sizes fewer exact held typed = absurd (omega (arith, fewer))
 first_sizes c V t first (v ∷ vs) (p ∷ parameters) (w ∷ words) sizes fewer exact held typed =
     ap (λ k. k ∷ map length (words ++ map (λ v. zeros_of c v.ty) (drop (length parameters) vs)))
-        (ap length (sym held.0) ∙ variable_size c V t first v.ty sizes (subst (λ k. variable_type V k ≡ Some v.ty) (nothing_more first) (typed 0 v.ty refl))) ∙
+    (ap length (sym held.0) ∙ variable_size c V t first v.ty sizes (subst (λ k. variable_type V k ≡ Some v.ty) (nothing_more first) (typed 0 v.ty refl))) ∙
     ap (λ l. words_of c.scope.structs v.ty ∷ l)
-        (first_sizes c V t (suc first) vs parameters words sizes (omega (arith, fewer)) (omega (arith, exact)) held.1 (λ u ty e. subst (λ k. variable_type V k ≡ Some ty) (one_more first u) (typed (suc u) ty e)))
+    (first_sizes c V t (suc first) vs parameters words sizes (omega (arith, fewer)) (omega (arith, exact)) held.1 (λ u ty e. subst (λ k. variable_type V k ≡ Some ty) (one_more first u) (typed (suc u) ty e)))
 
 -- the words of a parameter
 pub parameter_words : (t : State) (first : ℕ) (parameters : List Parameter) (words more : List (List ℕ)) (v : ℕ) → length words ≡ length parameters → HeldAs t first parameters words → v < length parameters → variable_words t (first + v) ≡ get_or (words ++ more) v []
@@ -142,6 +142,7 @@ other_words c (x ∷ vs) (w ∷ words) (suc v) ty low typed = other_words c vs w
 pub held_from : (u : State) (first : ℕ) (parameters : List Parameter) (words : List (List ℕ)) → length parameters ≤ length words → ((v : ℕ) → v < length parameters → variable_words u (first + v) ≡ get_or words v []) → HeldAs u first parameters words
 held_from u first [] words fewer h = tt
 held_from u first (p ∷ parameters) [] fewer h = absurd (omega (arith, fewer))
-held_from u first (p ∷ parameters) (w ∷ words) fewer h =
-    (subst (λ k. variable_words u k ≡ w) (nothing_more first) (h 0 (omega arith)),
-    held_from u (suc first) parameters words (omega (arith, fewer)) (λ v low. subst (λ k. variable_words u k ≡ get_or words v []) (one_more first v) (h (suc v) (omega (arith, low)))))
+held_from u first (p ∷ parameters) (w ∷ words) fewer h = (
+  subst (λ k. variable_words u k ≡ w) (nothing_more first) (h 0 (omega arith)),
+  held_from u (suc first) parameters words (omega (arith, fewer)) (λ v low. subst (λ k. variable_words u k ≡ get_or words v []) (one_more first v) (h (suc v) (omega (arith, low)))),
+)

@@ -1,5 +1,5 @@
 -- A function that is called and the function in place do the same.
-use Rattle.std.proofs.Common.{◌≡◌, ◌∙◌, refl, sym, ap, subst, ℕ, zero, suc, ◌+◌, ◌<◌, ◌≤◌, ◌⊎◌, inl, inr, Bool, true, false, List, [], ◌∷◌, ◌++◌, map, length, Option, None, Some, slice_get, get_or, arith}
+use Rattle.std.proofs.Common.{◌≡◌, ◌∙◌, refl, sym, ap, subst, ℕ, zero, suc, ◌+◌, ◌<◌, ◌⊎◌, inl, inr, Bool, true, false, List, [], ◌∷◌, ◌++◌, map, length, Option, None, Some, slice_get, get_or, arith}
 use Rattle.std.specs.Prelude.{◌||◌, drop, IsTrue, option_map, replicate, slice_index_or, take}
 use Rattle.std.proofs.lemmas.List.{append_assoc, append-nil}
 use Rattle.std.proofs.lemmas.Bool.{true≢false}
@@ -11,10 +11,9 @@ use Rattle.hl_meaning.specs.Types.{Ty, array_type, is_void, scalar_type, struct_
 use Rattle.hl_meaning.specs.Trees.{Expr}
 use Rattle.hl_meaning.specs.Places.{variable_type}
 use Rattle.hl_meaning.specs.Programs.{FunctionDef, Program, Variable}
-use Rattle.hl_meaning.specs.Layout.{words_of}
 use Rattle.hl_meaning.specs.WellFormed.{IsDeclared, IsExpr, IsFunction, IsWellFormed, callee_params, one_returns, param_of}
 use Rattle.hl_meaning.proofs.LayoutForms.{get-next}
-use Rattle.hl_source.specs.State.{Callee, Context, Progress, State, after, ends_at, goes_with, variable_words}
+use Rattle.hl_source.specs.State.{Callee, Progress, State, after, ends_at, goes_with, variable_words}
 use Rattle.hl_source.specs.Memory.{zeros_of}
 use Rattle.hl_source.specs.Statements.{Leaving, at_end, by_break, by_continue, by_return, does_all}
 use Rattle.hl_source.specs.Expressions.{no_callee}
@@ -23,15 +22,14 @@ use Rattle.hl_inline.specs.FlatTrees.{Flat, flat_block, flat_named}
 use Rattle.hl_inline.specs.FlatViews.{flat_stmts_of}
 use Rattle.hl_inline.specs.FlatLane.{FlatLeaving, flat_context, flat_end, flat_to, named_end}
 use Rattle.hl_inline.specs.Early.{declared_in, early_variables, parameter_numbers}
-use Rattle.hl_inline.specs.Flattening.{Fresh, Inlined, Instance, Laid, inlined, inlined_after, inlined_at, lay_all, next_of, outside_loops, zeros_first}
+use Rattle.hl_inline.specs.Flattening.{Fresh, Inlined, Instance, inlined, inlined_after, inlined_at, lay_all, next_of, outside_loops, zeros_first}
 use Rattle.hl_inline.proofs.Induction.{Every, every_map}
-use Rattle.hl_inline.proofs.Relation.{IsOutside, Keeps, Related, Stands, count_by_sizes, flat_of_context, sizes_at, sizes_in}
+use Rattle.hl_inline.proofs.Relation.{IsOutside, Keeps, Related, Stands, count_by_sizes, flat_of_context}
 use Rattle.hl_inline.proofs.FittingWords.{Fits}
 use Rattle.hl_inline.proofs.Performing.{Runs, Yields, perform, perform_next, perform_one, runs_map}
-use Rattle.hl_inline.proofs.Emission.{HasValue, IsFront, front_length, front_trans, variable_size}
-use Rattle.hl_inline.proofs.Passing.{HeldAs}
+use Rattle.hl_inline.proofs.Emission.{HasValue, front_length, front_trans, variable_size}
 use Rattle.hl_inline.proofs.Calls.{BeginsAs, EndsAs, InstanceIn, Inlines, body_code}
-use Rattle.hl_inline.proofs.Growth.{BodyGrows, Grows, grows_refl, inlined_grows}
+use Rattle.hl_inline.proofs.Growth.{BodyGrows, grows_refl, inlined_grows}
 use Rattle.hl_inline.proofs.Typed.{IsSome, ParamsSome, never, some_declared}
 use Rattle.hl_inline.proofs.KindParts.{every_from_all}
 use Rattle.hl_inline.proofs.IntrinsicFits.{nothing_fits}
@@ -39,7 +37,7 @@ use Rattle.hl_inline.proofs.Sound.{CalleesFit, place_value, sound}
 use Rattle.hl_inline.proofs.Expressions.{CalleeIn}
 use Rattle.hl_inline.proofs.Leaving.{LeavesAs, all_leaves}
 use Rattle.hl_inline.proofs.EarlyLemmas.{In, InOr, all_known_more, early_behind, function_covered, in_append_cases, in_front, in_range, known_at_start, range_bounds}
-use Rattle.hl_inline.proofs.FirstStates.{first_sizes, held_from, other_words, parameter_words, zeroed, zeroed_at, zeroed_exchange, zeroed_other, zeroed_runs, zeroed_sizes, zeros, zeros_replicated}
+use Rattle.hl_inline.proofs.FirstStates.{first_sizes, held_from, other_words, parameter_words, zeroed, zeroed_at, zeroed_exchange, zeroed_other, zeroed_runs, zeroed_sizes, zeros_replicated}
 use Rattle.hl_inline.proofs.Statements.{DoesAs, same_name}
 use Rattle.hl_inline.proofs.Laying.{all_laid, type_at}
 
@@ -90,8 +88,8 @@ inlines_again p lane a b d e V f n callee g x = record {
   names = x.names;
   runs = λ own count fresh place parameters ex t begins.
       runs_map (EndsAs (context_of p lane a d) V own g count (next_of fresh) t) (EndsAs (context_of p lane b e) V own g count (next_of fresh) t)
-          (λ result ended u h. ends_again p lane a b d e V own g count (next_of fresh) t result ended u h) (callee parameters ex) (perform f lane n (body_code g own fresh) t)
-          (x.runs own count fresh (instance_again p lane b a e d V own g count fresh place) parameters ex t (begins_again p lane b a e d V own g parameters ex t begins));
+      (λ result ended u h. ends_again p lane a b d e V own g count (next_of fresh) t result ended u h) (callee parameters ex) (perform f lane n (body_code g own fresh) t)
+      (x.runs own count fresh (instance_again p lane b a e d V own g count fresh place) parameters ex t (begins_again p lane b a e d V own g parameters ex t begins));
 }
 
 -- what is shown of each function that may be called: as it is called, as it is inlined, and as it is defined
@@ -185,7 +183,7 @@ module _ (p : Program) (well : IsWellFormed p) (V : List Variable) (f : Flat) (l
   function_there : (function : ℕ) (e : FunctionDef) → slice_get (take (length earlier) p.functions) function ≡ Some e → FunctionAs p V f lane n (slice_index_or earlier function no_callee) (inlined_at before function) function e
   function_there function e there =
       subst (λ m. FunctionAs p V f lane n (slice_index_or earlier function no_callee) (inlined_at before function) m e) (zero_plus function)
-          (functions_at p V f lane n 0 earlier before ds all function e (ap (λ l. slice_get l function) (sym before_is) ∙ there))
+      (functions_at p V f lane n 0 earlier before ds all function e (ap (λ l. slice_get l function) (sym before_is) ∙ there))
     where
       zero_plus : (m : ℕ) → 0 + m ≡ m
       zero_plus m = omega arith
@@ -266,13 +264,14 @@ module _ (p : Program) (well : IsWellFormed p) (V : List Variable) (f : Flat) (l
         where
           there_too : own.first + v < length t.variables
           there_too = omega (arith, (early_behind d v there).1, stands_here.room, count_by_sizes (context_of p lane earlier d) V t begins.flat_sizes)
+
           by_type : (ty : Ty) × (variable_type d.variables v ≡ Some ty) → variable_words (zeroed own.first (early_variables d) t) (own.first + v) ≡ variable_words (first_state (context_of p lane earlier d) d parameters x) v
           by_type (ty, typed) =
               zeroed_at own.first (early_variables d) t v there there_too ∙
               (zeros_replicated (variable_words t (own.first + v)) ∙
               (ap (λ k. replicate k 0) (variable_size (context_of p lane earlier d) V t (own.first + v) ty begins.flat_sizes (place.own_type v ty typed)) ∙
               (sym (subst (λ k. get_or (parameters ++ map (λ y. zeros_of (context_of p lane earlier d) y.ty) (drop k d.variables)) v [] ≡ zeros_of (context_of p lane earlier d) ty) begins.exact
-                  (other_words (context_of p lane earlier d) d.variables parameters v ty (omega (arith, begins.exact, (early_behind d v there).0)) typed)) ∙
+              (other_words (context_of p lane earlier d) d.variables parameters v ty (omega (arith, begins.exact, (early_behind d v there).0)) typed)) ∙
               sym (unwrap_or-slice_get (first_state (context_of p lane earlier d) d parameters x).variables v []))))
 
       related_start : Related (context_of p lane earlier d) V own.first (InOr (length d.variables) (known_at_start d)) (first_state (context_of p lane earlier d) d parameters x) (zeroed own.first (early_variables d) t)
@@ -287,6 +286,7 @@ module _ (p : Program) (well : IsWellFormed p) (V : List Variable) (f : Flat) (l
           by_side : (v : ℕ) → In (parameter_numbers d) v ⊎ In (early_variables d) v → variable_words (zeroed own.first (early_variables d) t) (own.first + v) ≡ variable_words (first_state (context_of p lane earlier d) d parameters x) v
           by_side v (inl there) = parameter_same v (omega (arith, (range_bounds 0 (length d.parameters) v there).1))
           by_side v (inr there) = early_same v there
+
           by_known : (v : ℕ) → v < length d.variables → InOr (length d.variables) (known_at_start d) v → variable_words (zeroed own.first (early_variables d) t) (own.first + v) ≡ variable_words (first_state (context_of p lane earlier d) d parameters x) v
           by_known v low (inl there) = by_side v (in_append_cases (parameter_numbers d) (early_variables d) v there)
           by_known v low (inr past) = absurd (omega (arith, low, past))
@@ -318,8 +318,8 @@ module _ (p : Program) (well : IsWellFormed p) (V : List Variable) (f : Flat) (l
           (does_all (context_of p lane earlier d) n d.body (first_state (context_of p lane earlier d) d parameters x)) (perform f lane n (lay_all before own outside_loops d.body fresh).code (zeroed own.first (early_variables d) t))
       laid_code =
           all_laid (context_of p lane earlier d) V own.first stands_here f lane n (knows d) before own refl bodies callees_in some_params sound_here (place_value (context_of p lane earlier d)) (variables_some p (length earlier) d is)
-              count place.large place.result_place place.result_type d.body false is.body (known_at_start d) (function_covered d) outside_loops fresh (place.room, place.front, place.exit)
-              (first_state (context_of p lane earlier d) d parameters x) (zeroed own.first (early_variables d) t) related_start
+          count place.large place.result_place place.result_type d.body false is.body (known_at_start d) (function_covered d) outside_loops fresh (place.room, place.front, place.exit)
+          (first_state (context_of p lane earlier d) d parameters x) (zeroed own.first (early_variables d) t) related_start
 
       -- the body in its name, which a `return` leaves
       named_body : (r : Progress FlatLeaving) → perform f lane n (lay_all before own outside_loops d.body fresh).code (zeroed own.first (early_variables d) t) ≡ r →
@@ -327,7 +327,7 @@ module _ (p : Program) (well : IsWellFormed p) (V : List Variable) (f : Flat) (l
       named_body r e =
           perform_one f lane n (flat_named own.exit (flat_block (flat_stmts_of (zeros_first own d ++ (lay_all before own outside_loops d.body fresh).code)))) t ∙
           ap (λ q. after q (named_end own.exit))
-              (perform_next f lane n (zeros_first own d) (lay_all before own outside_loops d.body fresh).code t (zeroed own.first (early_variables d) t) (zeroed_runs f lane n own.first (early_variables d) t) ∙ e)
+          (perform_next f lane n (zeros_first own d) (lay_all before own outside_loops d.body fresh).code t (zeroed own.first (early_variables d) t) (zeroed_runs f lane n own.first (early_variables d) t) ∙ e)
 
       runs_here : Runs (EndsAs (context_of p lane earlier d) V own (inlined before d) count (next_of fresh) t) (callee_of (context_of p lane earlier d) n d parameters x) (perform f lane n (body_code (inlined before d) own fresh) t)
       runs_here =
@@ -337,9 +337,11 @@ module _ (p : Program) (well : IsWellFormed p) (V : List Variable) (f : Flat) (l
               DoesAs own.exit 0 0 (Behind (declared_in (known_at_start d) d.body)) (Behind (known_at_start d)) (Behind (known_at_start d)) Returned q (perform f lane n (lay_all before own outside_loops d.body fresh).code (zeroed own.first (early_variables d) t)) →
               Runs (EndsAs (context_of p lane earlier d) V own (inlined before d) count (next_of fresh) t) (after q (λ leaving s. goes_with (value_of leaving) s)) (perform f lane n (body_code (inlined before d) own fresh) t)
           by_leaving (ends_at run) l e = named_body (ends_at run) e
-          by_leaving (goes_with at_end s) l (u, e, b) =
-              (u, named_body (goes_with flat_end u) e,
-              ends_here (declared_in (known_at_start d) d.body) (all_known_more (length d.variables) (known_at_start d) d.body) [] s u b.0 b.1 (λ some. absurd (true≢false (sym (end_void l) ∙ some))))
+          by_leaving (goes_with at_end s) l (u, e, b) = (
+            u,
+            named_body (goes_with flat_end u) e,
+            ends_here (declared_in (known_at_start d) d.body) (all_known_more (length d.variables) (known_at_start d) d.body) [] s u b.0 b.1 (λ some. absurd (true≢false (sym (end_void l) ∙ some))),
+          )
           by_leaving (goes_with by_break s) l e = never l
           by_leaving (goes_with by_continue s) l e = never l
           by_leaving (goes_with (by_return value) s) l (u, e, b, held) =
@@ -368,13 +370,14 @@ functions_as p well V f lane n knows earlier before ds [] all whole = subst (Fun
 functions_as p well V f lane n knows earlier before ds (d ∷ more) all whole =
     subst (FunctionsAs p V f lane n 0 (callees_after p lane n earlier (d ∷ more)) (inlined_after before (d ∷ more))) (append_assoc ds (d ∷ []) more)
     (functions_as p well V f lane n knows (earlier ++ callee_of (context_of p lane earlier d) n d ∷ []) (before ++ inlined before d ∷ []) (ds ++ d ∷ []) more
-        (functions_more p V f lane n 0 earlier before ds (callee_of (context_of p lane earlier d) n d) (inlined before d) d all
-            (subst (λ m. FunctionAs p V f lane n (callee_of (context_of p lane earlier d) n d) (inlined before d) m d) (many (length earlier) (length ds) (functions_length p V f lane n 0 earlier before ds all))
-                (function_as p well V f lane n knows earlier before ds more d all whole is)))
-        (whole ∙ sym (append_assoc ds (d ∷ []) more)))
+    (functions_more p V f lane n 0 earlier before ds (callee_of (context_of p lane earlier d) n d) (inlined before d) d all
+    (subst (λ m. FunctionAs p V f lane n (callee_of (context_of p lane earlier d) n d) (inlined before d) m d) (many (length earlier) (length ds) (functions_length p V f lane n 0 earlier before ds all))
+    (function_as p well V f lane n knows earlier before ds more d all whole is)))
+    (whole ∙ sym (append_assoc ds (d ∷ []) more)))
   where
     many : (a b : ℕ) → a ≡ b → a ≡ 0 + b
     many a b e = omega (arith, e)
+
     is : IsFunction p (length earlier) d
     is = well.functions (length earlier) d
         (ap (λ l. slice_get l (length earlier)) whole ∙ (ap (slice_get (ds ++ d ∷ more)) (functions_length p V f lane n 0 earlier before ds all) ∙ get-next ds d more))

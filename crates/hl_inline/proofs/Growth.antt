@@ -1,12 +1,12 @@
 -- What is free behind code is what was free before it, or more: variables and names are only added.
-use Rattle.std.proofs.Common.{◌≡◌, refl, sym, subst, ℕ, suc, ◌+◌, ◌≤◌, Bool, true, false, List, [], ◌∷◌, ◌++◌, map, length, Option, None, Some, arith}
+use Rattle.std.proofs.Common.{◌≡◌, refl, sym, subst, ℕ, suc, ◌≤◌, Bool, true, false, List, [], ◌∷◌, ◌++◌, map, Option, None, Some, arith}
 use Rattle.std.specs.Prelude.{if◌then◌else◌, ◌||◌, ◌&&◌, not}
 use Rattle.hl_meaning.specs.declared.program.Parameter.{Parameter}
 use Rattle.hl_meaning.specs.Types.{Ty}
 use Rattle.hl_meaning.specs.Trees.{Args, Expr, Form, MaybeStmt, Stmt, Stmts, an_expr, atomic_form, binary_form, block_stmt, break_stmt, build_form, call_form, choose_form, continue_stmt, convert_form, do_stmt, for_stmt, if_stmt, intrinsic_form, literal_form, local_stmt, method_form, more_args, more_stmts, no_args, no_stmt, no_stmts, pick_form, place_arg, read_form, return_stmt, run_stmt, some_stmt, type_of, unary_form, value_arg, while_stmt, write_form}
 use Rattle.hl_meaning.specs.Programs.{FunctionDef}
 use Rattle.hl_inline.specs.Operands.{args_exprs, operand_exprs, place_exprs}
-use Rattle.hl_inline.specs.Flattening.{Argument, Emitter, Fresh, Inlined, Instance, Jumps, Laid, Valued, any_calls, call, emit_all, emitted, emitter, inlined, inlined_at, instance_of, is_call, jumps_of, lay, lay_all, lay_if, lay_local, lay_return, lay_run, lay_run_if, lay_test_if, next_of, outside_loops, pass_all, place_argument, result_variables, run_of, saved, settled, token_of, unnamed, value_argument, with_instance, with_jumps}
+use Rattle.hl_inline.specs.Flattening.{Argument, Emitter, Fresh, Inlined, Instance, Jumps, Valued, any_calls, call, emit_all, emitted, emitter, inlined, inlined_at, instance_of, is_call, jumps_of, lay, lay_all, lay_if, lay_local, lay_return, lay_run, lay_run_if, lay_test_if, next_of, outside_loops, pass_all, place_argument, result_variables, run_of, saved, settled, token_of, unnamed, value_argument, with_instance, with_jumps}
 use Rattle.hl_inline.proofs.Induction.{Every, Step, by_operands, every_back, every_front}
 use Rattle.hl_inline.proofs.OperandLemmas.{form_emitter_all, is_call_form}
 use Rattle.hl_inline.proofs.Emission.{IsFront, front_more, front_refl, front_trans}
@@ -65,8 +65,8 @@ called_grows : (i : Instance) (ty : Ty) (at : ℕ) (g : Inlined) (args : List Ar
 called_grows i ty at g args body all fresh =
     grows_trans fresh (with_instance g ty at fresh) _ (record { front = front_more fresh.variables (g.variables ++ result_variables ty at); names = omega arith })
     (grows_trans (with_instance g ty at fresh) (pass_all i at (next_of fresh) args g.parameters (with_instance g ty at fresh)).fresh _
-        (passed_grow i at (next_of fresh) args g.parameters all (with_instance g ty at fresh))
-        (body (instance_of g fresh) (pass_all i at (next_of fresh) args g.parameters (with_instance g ty at fresh)).fresh))
+    (passed_grow i at (next_of fresh) args g.parameters all (with_instance g ty at fresh))
+    (body (instance_of g fresh) (pass_all i at (next_of fresh) args g.parameters (with_instance g ty at fresh)).fresh))
 
 module _ (k : List Inlined) (i : Instance) (bodies : (function : ℕ) → BodyGrows (inlined_at k function)) where
   -- expressions

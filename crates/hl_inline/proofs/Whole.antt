@@ -1,19 +1,18 @@
 -- A program without calls means what the program means that it was made of.
-use Rattle.std.proofs.Common.{◌≡◌, ◌∙◌, refl, sym, ap, subst, ℕ, zero, suc, ◌+◌, ◌<◌, ◌≤◌, false, List, [], ◌∷◌, ◌++◌, map, length, Option, None, Some, slice_get, unwrap_or, get_or, arith}
-use Rattle.std.specs.Prelude.{option_map, replicate, slice_index_or}
-use Rattle.std.proofs.lemmas.List.{append_assoc, length-append, length-map, length-replicate}
+use Rattle.std.proofs.Common.{◌≡◌, ◌∙◌, refl, sym, ap, subst, ℕ, zero, suc, ◌+◌, ◌<◌, false, List, [], ◌∷◌, ◌++◌, map, length, Option, None, Some, slice_get, unwrap_or, get_or, arith}
+use Rattle.std.specs.Prelude.{option_map, slice_index_or}
+use Rattle.std.proofs.lemmas.List.{append_assoc, length-append, length-map}
 use Rattle.std.proofs.lemmas.Bool.{true≢false}
 use Rattle.std.proofs.lemmas.Option.{unwrap_or-slice_get}
 use Rattle.lane_core.specs.declared.event.Asked.TheVariants.{Ended}
 use Rattle.lane_core.specs.declared.event.Reply.{Reply}
-use Rattle.lane_core.specs.Lane.{Exchange, Lane, Run, first_exchange, standing}
+use Rattle.lane_core.specs.Lane.{Lane, first_exchange, standing}
 use Rattle.hl_meaning.specs.Types.{Ty, is_void}
 use Rattle.hl_meaning.specs.Places.{variable_type}
 use Rattle.hl_meaning.specs.Programs.{Constant, FunctionDef, Program, Variable}
-use Rattle.hl_meaning.specs.Layout.{words_of}
 use Rattle.hl_meaning.specs.WellFormed.{IsConstant, IsEntry, IsEntryIf, IsInput, IsWellFormed}
 use Rattle.hl_source.specs.State.{Callee, Context, Progress, State, ends_at, goes_with, variable_words}
-use Rattle.hl_source.specs.Memory.{constant_words, zeros_of}
+use Rattle.hl_source.specs.Memory.{constant_words}
 use Rattle.hl_source.specs.Expressions.{no_callee}
 use Rattle.hl_source.specs.SourceLane.{callees_after, context_of, ended, entry_of, input_words, inputs, source_lane}
 use Rattle.hl_inline.specs.FlatTrees.{Flat, FlatStmt}
@@ -24,13 +23,13 @@ use Rattle.hl_inline.specs.KeepsMeaning.{KeepsMeaning}
 use Rattle.hl_inline.proofs.Induction.{Every}
 use Rattle.hl_inline.proofs.Relation.{sizes_at, sizes_in}
 use Rattle.hl_inline.proofs.Performing.{Runs, perform, perform_next}
-use Rattle.hl_inline.proofs.Emission.{IsFront, front_refl, type_there}
+use Rattle.hl_inline.proofs.Emission.{IsFront, front_refl}
 use Rattle.hl_inline.proofs.Passing.{HeldAs}
 use Rattle.hl_inline.proofs.Calls.{BeginsAs, EndsAs, InstanceIn, body_code, type_behind, type_front}
 use Rattle.hl_inline.proofs.KindParts.{every_from_all}
 use Rattle.hl_inline.proofs.FirstStates.{held_from, zeros_sizes}
 use Rattle.hl_inline.proofs.Beginnings.{AreWords, constants_are, constants_get, constants_run, constants_words, inputs_are, inputs_run, inputs_words, written, written_at, written_below, written_exchange, written_sizes}
-use Rattle.hl_inline.proofs.Functions.{FunctionAs, FunctionsAs, KnowsAs, functions_as, functions_at}
+use Rattle.hl_inline.proofs.Functions.{FunctionAs, functions_as, functions_at}
 
 -- the type of a constant's variable
 constant_variable : (constants : List Constant) (k : ℕ) (ty : Ty) → option_map (λ d. d.variable.ty) (slice_get constants k) ≡ Some ty → variable_type (map (λ c. c.variable) constants) k ≡ Some ty
@@ -64,7 +63,7 @@ module _ (p : Program) (well : IsWellFormed p) (lane : Lane) (n : ℕ) (replies 
       subst (λ x. FunctionAs p all_variables made lane n x g p.entry d) (sym as_callee)
       (subst (λ m. FunctionAs p all_variables made lane n (slice_index_or (callees_after p lane n [] p.functions) p.entry no_callee) g m d) (zero_plus p.entry)
       (functions_at p all_variables made lane n 0 (callees_after p lane n [] p.functions) (inlined_after [] p.functions) p.functions
-          (functions_as p well all_variables made lane n (λ e. refl) [] [] [] p.functions tt refl) p.entry d there))
+      (functions_as p well all_variables made lane n (λ e. refl) [] [] [] p.functions tt refl) p.entry d there))
     where
       zero_plus : (m : ℕ) → 0 + m ≡ m
       zero_plus m = omega arith
@@ -140,7 +139,7 @@ module _ (p : Program) (well : IsWellFormed p) (lane : Lane) (n : ℕ) (replies 
   constant_held k low =
       written_below (length p.constants + 0) (inputs_words p lane d.variables d.parameters) with_constants k (omega (arith, low)) ∙
       (subst (λ m. variable_words with_constants m ≡ get_or (constants_words p.constants) k []) (zero_plus k)
-          (written_at known all_variables 0 (constants_words p.constants) first are_constants first_sizes k (omega (arith, low, length-map p.constants (λ c. c.words)))) ∙
+      (written_at known all_variables 0 (constants_words p.constants) first are_constants first_sizes k (omega (arith, low, length-map p.constants (λ c. c.words)))) ∙
       constants_get p.constants k)
     where
       zero_plus : (m : ℕ) → 0 + m ≡ m
@@ -150,7 +149,7 @@ module _ (p : Program) (well : IsWellFormed p) (lane : Lane) (n : ℕ) (replies 
   input_held =
       held_from with_inputs (length p.constants) d.parameters (inputs_words p lane d.variables d.parameters) (omega (arith, length-map d.parameters (λ q. input_words p lane d.variables q)))
       (λ v low. subst (λ m. variable_words with_inputs (m + v) ≡ get_or (inputs_words p lane d.variables d.parameters) v []) (plus_nothing (length p.constants))
-          (written_at known all_variables (length p.constants + 0) (inputs_words p lane d.variables d.parameters) with_constants are_inputs constants_sizes v (omega (arith, low, length-map d.parameters (λ q. input_words p lane d.variables q)))))
+      (written_at known all_variables (length p.constants + 0) (inputs_words p lane d.variables d.parameters) with_constants are_inputs constants_sizes v (omega (arith, low, length-map d.parameters (λ q. input_words p lane d.variables q)))))
     where
       plus_nothing : (m : ℕ) → m + 0 ≡ m
       plus_nothing m = omega arith

@@ -1,6 +1,6 @@
 -- What a program without calls does first: constants are set, and the parameters of the entry get their semantics.
-use Rattle.std.proofs.Common.{◌≡◌, ◌∙◌, refl, sym, ap, subst, ℕ, zero, suc, ◌+◌, ◌<◌, ◌≤◌, Bool, true, false, List, [], ◌∷◌, map, length, Option, None, Some, slice_get, unwrap_or, get_or, arith}
-use Rattle.std.specs.Prelude.{◌&&◌, IsTrue, option_map, take}
+use Rattle.std.proofs.Common.{◌≡◌, ◌∙◌, refl, sym, ap, subst, ℕ, zero, suc, ◌+◌, ◌<◌, ◌≤◌, List, [], ◌∷◌, map, length, Option, None, Some, slice_get, unwrap_or, get_or, arith}
+use Rattle.std.specs.Prelude.{IsTrue, option_map, take}
 use Rattle.std.specs.Option.{option_map_or}
 use Rattle.std.specs.List.{concat}
 use Rattle.std.proofs.lemmas.List.{length-take-le}
@@ -30,7 +30,8 @@ use Rattle.hl_inline.proofs.Induction.{Every}
 use Rattle.hl_inline.proofs.Relation.{count_by_sizes, sizes_at, sizes_in, sizes_set, words_set_other, words_set_same}
 use Rattle.hl_inline.proofs.Performing.{perform}
 use Rattle.hl_inline.proofs.Emission.{type_there, variable_size}
-use Rattle.hl_inline.proofs.Typed.{never}
+use Rattle.hl_inline.proofs.Typed.{and_right, never}
+use Rattle.hl_inline.proofs.FirstStates.{nothing_more, one_more}
 
 -- variables that are set one after another
 
@@ -58,12 +59,6 @@ pub written_below : (number : ℕ) (words : List (List ℕ)) (t : State) (w : �
 written_below number [] t w low = refl
 written_below number (ws ∷ words) t w low =
     written_below (suc number) words (with_variable number ws t) w (omega (arith, low)) ∙ words_set_other number w ws t (λ e. omega (arith, e, low))
-
-nothing_more : (m : ℕ) → m + 0 ≡ m
-nothing_more m = omega arith
-
-one_more : (m u : ℕ) → m + suc u ≡ suc m + u
-one_more m u = omega arith
 
 plus_suc : (m u : ℕ) → m + suc u ≡ suc (m + u)
 plus_suc m u = omega arith
@@ -177,10 +172,6 @@ numeric_words structs (scalar_type kind) h = sym (words-scalar structs kind)
 numeric_words structs (vector_type kind size) h = sym (words-vector structs kind size)
 numeric_words structs (array_type element count) h = never h
 numeric_words structs (struct_type number) h = never h
-
-and_right : (a b : Bool) → IsTrue (a && b) → IsTrue b
-and_right true b h = h
-and_right false b h = never h
 
 suits_numeric : (semantic : Semantic) (ty : Ty) → HasSemantic semantic ty → IsTrue (is_numeric ty)
 suits_numeric DispatchThreadId ty h = h.0

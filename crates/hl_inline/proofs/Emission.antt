@@ -66,9 +66,6 @@ variable_size c V t w ty sizes typed =
     by_words None e = absurd (none-some (words_of c.scope.structs ty) e)
     by_words (Some ws) e = same_Some (length ws) (words_of c.scope.structs ty) e
 
-pub keeps_less : (first size below more : ℕ) (t u : State) → below ≤ more → Keeps first size more t u → Keeps first size below t u
-keeps_less first size below more t u low keeps w lower outside = keeps w (omega (arith, low, lower)) outside
-
 pub keeps_trans : (first size below more : ℕ) (t u v : State) → below ≤ more → Keeps first size below t u → Keeps first size more u v → Keeps first size below t v
 keeps_trans first size below more t u v low k l w lower outside = l w (omega (arith, low, lower)) outside ∙ k w lower outside
 

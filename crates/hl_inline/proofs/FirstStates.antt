@@ -1,6 +1,6 @@
 -- The first state of a function, and what stands in the variables of the function in place where its body begins.
 use Rattle.std.proofs.Common.{◌≡◌, ◌∙◌, refl, sym, ap, subst, ℕ, zero, suc, ◌+◌, ◌<◌, ◌≤◌, ◌⊎◌, inl, inr, List, [], ◌∷◌, ◌++◌, map, length, None, Some, get_or, arith}
-use Rattle.std.specs.Prelude.{drop, replicate}
+use Rattle.std.specs.Prelude.{drop}
 use Rattle.std.proofs.lemmas.List.{length-map, length-replicate, length-set}
 use Rattle.std.proofs.lemmas.Bool.{cases_eq}
 use Rattle.std.proofs.lemmas.Option.{none-some, same_Some}
@@ -21,6 +21,17 @@ use Rattle.hl_inline.proofs.Passing.{HeldAs}
 use Rattle.hl_inline.proofs.Typed.{never}
 use Rattle.hl_inline.proofs.EarlyLemmas.{In, in_cases, in_first, in_rest}
 
+-- sums of places
+
+pub zero_plus : (m : ℕ) → 0 + m ≡ m
+zero_plus m = omega arith
+
+pub nothing_more : (m : ℕ) → m + 0 ≡ m
+nothing_more m = omega arith
+
+pub one_more : (m u : ℕ) → m + suc u ≡ suc m + u
+one_more m u = omega arith
+
 -- zeros
 
 abbrev pub zeros : List ℕ → List ℕ
@@ -29,10 +40,6 @@ zeros ws = map (λ _. 0) ws
 zeros_twice : (ws : List ℕ) → zeros (zeros ws) ≡ zeros ws
 zeros_twice [] = refl
 zeros_twice (w ∷ ws) = ap (λ l. 0 ∷ l) (zeros_twice ws)
-
-pub zeros_replicated : (ws : List ℕ) → zeros ws ≡ replicate (length ws) 0
-zeros_replicated [] = refl
-zeros_replicated (w ∷ ws) = ap (λ l. 0 ∷ l) (zeros_replicated ws)
 
 -- a variable set to zeros
 abbrev pub cleared : (number : ℕ) → State → State
@@ -93,12 +100,6 @@ zeroed_at first (u ∷ vs) t v there low =
         next h ∙ ap zeros (words_set_other (first + u) (first + v) (zeros (variable_words t (first + u))) t (λ is. apart (omega (arith, is))))
 
 -- the first state of a function
-
-nothing_more : (m : ℕ) → m + 0 ≡ m
-nothing_more m = omega arith
-
-one_more : (m u : ℕ) → m + suc u ≡ suc m + u
-one_more m u = omega arith
 
 pub zeros_sizes : (c : Context) (vs : List Variable) → map length (map (λ v. zeros_of c v.ty) vs) ≡ map (λ v. words_of c.scope.structs v.ty) vs
 zeros_sizes c [] = refl

@@ -28,6 +28,7 @@ use Rattle.hl_inline.proofs.Relation.{IsOutside, Keeps, Related, Stands, count_b
 use Rattle.hl_inline.proofs.FittingWords.{Fits}
 use Rattle.hl_inline.proofs.Performing.{Runs, Yields, perform, perform_next, perform_one, runs_map}
 use Rattle.hl_inline.proofs.Emission.{HasValue, front_length, front_trans, variable_size}
+use Rattle.hl_inline.proofs.Passing.{zeros_are}
 use Rattle.hl_inline.proofs.Calls.{BeginsAs, EndsAs, InstanceIn, Inlines, body_code}
 use Rattle.hl_inline.proofs.Growth.{BodyGrows, grows_refl, inlined_grows}
 use Rattle.hl_inline.proofs.Typed.{IsSome, ParamsSome, never, some_declared}
@@ -37,7 +38,7 @@ use Rattle.hl_inline.proofs.Sound.{CalleesFit, place_value, sound}
 use Rattle.hl_inline.proofs.Expressions.{CalleeIn}
 use Rattle.hl_inline.proofs.Leaving.{LeavesAs, all_leaves}
 use Rattle.hl_inline.proofs.EarlyLemmas.{In, InOr, all_known_more, early_behind, function_covered, in_append_cases, in_front, in_range, known_at_start, range_bounds}
-use Rattle.hl_inline.proofs.FirstStates.{first_sizes, held_from, other_words, parameter_words, zeroed, zeroed_at, zeroed_exchange, zeroed_other, zeroed_runs, zeroed_sizes, zeros_replicated}
+use Rattle.hl_inline.proofs.FirstStates.{first_sizes, held_from, nothing_more, one_more, other_words, parameter_words, zeroed, zeroed_at, zeroed_exchange, zeroed_other, zeroed_runs, zeroed_sizes, zero_plus}
 use Rattle.hl_inline.proofs.Statements.{DoesAs, same_name}
 use Rattle.hl_inline.proofs.Laying.{all_laid, type_at}
 
@@ -108,12 +109,6 @@ FunctionsAs p V f lane n number [] [] [] = Unit {0}
 FunctionsAs p V f lane n number (x ∷ callees) (g ∷ inlined) (d ∷ functions) = FunctionAs p V f lane n x g number d × FunctionsAs p V f lane n (suc number) callees inlined functions
 FunctionsAs p V f lane n number _ _ _ = ⊥
 
-nothing_more : (m : ℕ) → m + 0 ≡ m
-nothing_more m = omega arith
-
-one_more : (m u : ℕ) → suc m + u ≡ m + suc u
-one_more m u = omega arith
-
 module _ (p : Program) (V : List Variable) (f : Flat) (lane : Lane) (n : ℕ) where
   pub functions_at : (number : ℕ) (callees : List Callee) (gs : List Inlined) (ds : List FunctionDef) → FunctionsAs p V f lane n number callees gs ds → (function : ℕ) (d : FunctionDef) → slice_get ds function ≡ Some d →
       FunctionAs p V f lane n (slice_index_or callees function no_callee) (inlined_at gs function) (number + function) d
@@ -127,7 +122,7 @@ module _ (p : Program) (V : List Variable) (f : Flat) (lane : Lane) (n : ℕ) wh
   functions_at number (x ∷ callees) (g ∷ gs) (d' ∷ ds) all zero d e =
       subst (λ m. FunctionAs p V f lane n x g m d) (sym (nothing_more number)) (subst (FunctionAs p V f lane n x g number) (same_Some d' d e) all.0)
   functions_at number (x ∷ callees) (g ∷ gs) (d' ∷ ds) all (suc function) d e =
-      subst (λ m. FunctionAs p V f lane n (slice_index_or callees function no_callee) (inlined_at gs function) m d) (one_more number function) (functions_at (suc number) callees gs ds all.1 function d e)
+      subst (λ m. FunctionAs p V f lane n (slice_index_or callees function no_callee) (inlined_at gs function) m d) (sym (one_more number function)) (functions_at (suc number) callees gs ds all.1 function d e)
 
   functions_more : (number : ℕ) (callees : List Callee) (gs : List Inlined) (ds : List FunctionDef) (x : Callee) (g : Inlined) (d : FunctionDef) → FunctionsAs p V f lane n number callees gs ds →
       FunctionAs p V f lane n x g (number + length ds) d → FunctionsAs p V f lane n number (callees ++ x ∷ []) (gs ++ g ∷ []) (ds ++ d ∷ [])
@@ -139,7 +134,7 @@ module _ (p : Program) (V : List Variable) (f : Flat) (lane : Lane) (n : ℕ) wh
   functions_more number (x' ∷ callees) [] (d' ∷ ds) x g d all one = absurd all
   functions_more number (x' ∷ callees) (g' ∷ gs) [] x g d all one = absurd all
   functions_more number (x' ∷ callees) (g' ∷ gs) (d' ∷ ds) x g d all one =
-      (all.0, functions_more (suc number) callees gs ds x g d all.1 (subst (λ m. FunctionAs p V f lane n x g m d) (sym (one_more number (length ds))) one))
+      (all.0, functions_more (suc number) callees gs ds x g d all.1 (subst (λ m. FunctionAs p V f lane n x g m d) (one_more number (length ds)) one))
 
   functions_length : (number : ℕ) (callees : List Callee) (gs : List Inlined) (ds : List FunctionDef) → FunctionsAs p V f lane n number callees gs ds → length callees ≡ length ds
   functions_length number [] [] [] all = refl
@@ -184,9 +179,6 @@ module _ (p : Program) (well : IsWellFormed p) (V : List Variable) (f : Flat) (l
   function_there function e there =
       subst (λ m. FunctionAs p V f lane n (slice_index_or earlier function no_callee) (inlined_at before function) m e) (zero_plus function)
       (functions_at p V f lane n 0 earlier before ds all function e (ap (λ l. slice_get l function) (sym before_is) ∙ there))
-    where
-      zero_plus : (m : ℕ) → 0 + m ≡ m
-      zero_plus m = omega arith
 
   bodies : (function : ℕ) → BodyGrows (inlined_at before function)
   bodies = functions_grow p V f lane n 0 earlier before ds all
@@ -268,7 +260,7 @@ module _ (p : Program) (well : IsWellFormed p) (V : List Variable) (f : Flat) (l
           by_type : (ty : Ty) × (variable_type d.variables v ≡ Some ty) → variable_words (zeroed own.first (early_variables d) t) (own.first + v) ≡ variable_words (first_state (context_of p lane earlier d) d parameters x) v
           by_type (ty, typed) =
               zeroed_at own.first (early_variables d) t v there there_too ∙
-              (zeros_replicated (variable_words t (own.first + v)) ∙
+              (zeros_are (variable_words t (own.first + v)) ∙
               (ap (λ k. replicate k 0) (variable_size (context_of p lane earlier d) V t (own.first + v) ty begins.flat_sizes (place.own_type v ty typed)) ∙
               (sym (subst (λ k. get_or (parameters ++ map (λ y. zeros_of (context_of p lane earlier d) y.ty) (drop k d.variables)) v [] ≡ zeros_of (context_of p lane earlier d) ty) begins.exact
               (other_words (context_of p lane earlier d) d.variables parameters v ty (omega (arith, begins.exact, (early_behind d v there).0)) typed)) ∙

@@ -76,7 +76,7 @@ pub record HasPlaceValue (c : Context) (place : Location) : Type 0 where
   pub long : (ixs : List ℕ) (s : State) → Yields (λ ws. length ws ≡ words_of c.scope.structs (place_type place)) (read_place c place ixs s)
   pub small : words_of c.scope.structs (place_type place) ≤ most_words
 
-zeros_are : (ws : List ℕ) → map {B = ℕ} (λ _. 0) ws ≡ replicate (length ws) 0
+pub zeros_are : (ws : List ℕ) → map {B = ℕ} (λ _. 0) ws ≡ replicate (length ws) 0
 zeros_are [] = refl
 zeros_are (w ∷ ws) = ap (λ l. 0 ∷ l) (zeros_are ws)
 

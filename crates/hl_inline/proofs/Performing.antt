@@ -75,11 +75,6 @@ opens_same M R (goes_with a s) q k l h (t, e, m, (u, is, r)) = (t, e, m, (u, h t
 opens_same M R (ends_at run) q k l h (inl e) = inl e
 opens_same M R (ends_at run) q k l h (inr (t, e, m, is)) = inr (t, e, m, h t ∙ is)
 
-pub opens_map : {A : Type 0} (M : State → Type 0) (R S : State → State → Type 0) (p : Progress A) (q : Progress FlatLeaving) (k : State → Progress A) →
-    ((s t : State) → R s t → S s t) → Opens M R p q k → Opens M S p q k
-opens_map M R S (goes_with a s) q k h (t, e, m, (u, is, r)) = (t, e, m, (u, is, h s u r))
-opens_map M R S (ends_at run) q k h o = o
-
 -- where nothing is left to do behind the code, and its evaluation gives the same wherever it stands
 pub alike_map : {A : Type 0} (R S : State → State → Type 0) → ((s t : State) → R s t → S s t) → (p q : Progress A) → Alike R p q → Alike S p q
 alike_map R S h (goes_with a s) q (t, e, r) = (t, e, h s t r)

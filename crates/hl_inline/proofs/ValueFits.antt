@@ -89,9 +89,6 @@ each_of_kind kind (suc count) (w ∷ ws) h = (h.0, each_of_kind kind count ws h.
 pub basic_fits : (structs : List StructDef) (ty : Ty) (ws : List ℕ) → IsTrue (is_basic ty) → length ws ≡ component_count ty → Every (λ w. word_as (component_kind ty) w ≡ w) ws → Fits structs ty ws
 basic_fits structs ty ws basic e h = subst (λ k. HasKinds k ws) (sym (basic_kinds structs ty basic)) (one_kind (component_kind ty) (component_count ty) ws e h)
 
-pub basic_each : (structs : List StructDef) (ty : Ty) (ws : List ℕ) → IsTrue (is_basic ty) → Fits structs ty ws → Every (λ w. word_as (component_kind ty) w ≡ w) ws
-basic_each structs ty ws basic fits = each_of_kind (component_kind ty) (component_count ty) ws (subst (λ k. HasKinds k ws) (basic_kinds structs ty basic) fits)
-
 -- a word of a number is read as it is
 number_word : (ty : Ty) → IsTrue (is_numeric ty) → (w : ℕ) → word_as (component_kind ty) w ≡ w
 number_word void_type h w = never h

@@ -27,7 +27,7 @@ use Rattle.hl_inline.proofs.Emission.{IsFront, front_refl}
 use Rattle.hl_inline.proofs.Passing.{HeldAs}
 use Rattle.hl_inline.proofs.Calls.{BeginsAs, EndsAs, InstanceIn, body_code, type_behind, type_front}
 use Rattle.hl_inline.proofs.KindParts.{every_from_all}
-use Rattle.hl_inline.proofs.FirstStates.{held_from, zeros_sizes}
+use Rattle.hl_inline.proofs.FirstStates.{held_from, nothing_more, zero_plus, zeros_sizes}
 use Rattle.hl_inline.proofs.Beginnings.{AreWords, constants_are, constants_get, constants_run, constants_words, inputs_are, inputs_run, inputs_words, written, written_at, written_below, written_exchange, written_sizes}
 use Rattle.hl_inline.proofs.Functions.{FunctionAs, functions_as, functions_at}
 
@@ -64,9 +64,6 @@ module _ (p : Program) (well : IsWellFormed p) (lane : Lane) (n : ℕ) (replies 
       (subst (λ m. FunctionAs p all_variables made lane n (slice_index_or (callees_after p lane n [] p.functions) p.entry no_callee) g m d) (zero_plus p.entry)
       (functions_at p all_variables made lane n 0 (callees_after p lane n [] p.functions) (inlined_after [] p.functions) p.functions
       (functions_as p well all_variables made lane n (λ e. refl) [] [] [] p.functions tt refl) p.entry d there))
-    where
-      zero_plus : (m : ℕ) → 0 + m ≡ m
-      zero_plus m = omega arith
 
   -- where the entry stands
 
@@ -121,10 +118,7 @@ module _ (p : Program) (well : IsWellFormed p) (lane : Lane) (n : ℕ) (replies 
   inputs_hold = every_from_all (IsInput d.variables) d.parameters is_entry.inputs
 
   are_constants : AreWords known all_variables 0 (constants_words p.constants)
-  are_constants = constants_are known all_variables 0 p.constants constants_hold (λ k ty e. subst (λ m. variable_type all_variables m ≡ Some ty) (plus_zero k) (constant_typed k ty e))
-    where
-      plus_zero : (m : ℕ) → m ≡ 0 + m
-      plus_zero m = omega arith
+  are_constants = constants_are known all_variables 0 p.constants constants_hold (λ k ty e. subst (λ m. variable_type all_variables m ≡ Some ty) (sym (zero_plus k)) (constant_typed k ty e))
 
   typed_inputs : (v : ℕ) (ty : Ty) → variable_type d.variables v ≡ Some ty → variable_type all_variables (length p.constants + v) ≡ Some ty
   typed_inputs v ty e = own_typed v ty (ap (λ l. variable_type l v) shown.variables ∙ e)
@@ -141,18 +135,12 @@ module _ (p : Program) (well : IsWellFormed p) (lane : Lane) (n : ℕ) (replies 
       (subst (λ m. variable_words with_constants m ≡ get_or (constants_words p.constants) k []) (zero_plus k)
       (written_at known all_variables 0 (constants_words p.constants) first are_constants first_sizes k (omega (arith, low, length-map p.constants (λ c. c.words)))) ∙
       constants_get p.constants k)
-    where
-      zero_plus : (m : ℕ) → 0 + m ≡ m
-      zero_plus m = omega arith
 
   input_held : HeldAs with_inputs (length p.constants) d.parameters (inputs_words p lane d.variables d.parameters)
   input_held =
       held_from with_inputs (length p.constants) d.parameters (inputs_words p lane d.variables d.parameters) (omega (arith, length-map d.parameters (λ q. input_words p lane d.variables q)))
-      (λ v low. subst (λ m. variable_words with_inputs (m + v) ≡ get_or (inputs_words p lane d.variables d.parameters) v []) (plus_nothing (length p.constants))
+      (λ v low. subst (λ m. variable_words with_inputs (m + v) ≡ get_or (inputs_words p lane d.variables d.parameters) v []) (nothing_more (length p.constants))
       (written_at known all_variables (length p.constants + 0) (inputs_words p lane d.variables d.parameters) with_constants are_inputs constants_sizes v (omega (arith, low, length-map d.parameters (λ q. input_words p lane d.variables q)))))
-    where
-      plus_nothing : (m : ℕ) → m + 0 ≡ m
-      plus_nothing m = omega arith
 
   begins : BeginsAs (context_of p lane [] d) all_variables (entry_instance p g) g (inputs_words p lane d.variables d.parameters) (first_exchange replies) with_inputs
   begins = record {

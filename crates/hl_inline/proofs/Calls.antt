@@ -233,7 +233,8 @@ module _ (c : Context) (V : List Variable) (first : ℕ) (stands : Stands c V fi
         result_there : next_of fresh + length g.variables < next_of (with_body ty at g (instance_of g fresh) (pass_all i at (next_of fresh) (args_by em args) g.parameters (with_instance g ty at fresh))).fresh
         result_there = omega (arith, result_count g.variables ty at some, behind_instance,
             front_length (with_instance g ty at fresh).variables _ (pass_grows c V first stands f lane n known D em i at (next_of fresh) args g.parameters ready.args_ready (with_instance g ty at fresh)),
-            front_length (pass_all i at (next_of fresh) (args_by em args) g.parameters (with_instance g ty at fresh)).fresh.variables _ (ready.inlines.grows (instance_of g fresh) _))
+            front_length (pass_all i at (next_of fresh) (args_by em args) g.parameters (with_instance g ty at fresh)).fresh.variables _
+                (ready.inlines.grows (instance_of g fresh) (pass_all i at (next_of fresh) (args_by em args) g.parameters (with_instance g ty at fresh)).fresh))
         stays : (a : List ℕ) (s1 u : State) → CalledAs ty (next_of fresh) (next_of fresh + length g.variables) t a s1 u × Fits c.scope.structs ty a →
             Stays c V first D (next_of fresh) (next_of (with_body ty at g (instance_of g fresh) (pass_all i at (next_of fresh) (args_by em args) g.parameters (with_instance g ty at fresh))).fresh) t
                 (evaluates (flat_of_context c V) (reading ty at (next_of fresh + length g.variables))) a s1 u

@@ -34,7 +34,7 @@ HasKinds _ _ = ⊥
 abbrev pub Fits : List StructDef → Ty → List ℕ → Type 0
 Fits structs ty words = HasKinds (kinds_of structs ty) words
 
-kinds_length : (kinds : List Kind) (words : List ℕ) → HasKinds kinds words → length words ≡ length kinds
+pub kinds_length : (kinds : List Kind) (words : List ℕ) → HasKinds kinds words → length words ≡ length kinds
 kinds_length [] [] h = refl
 kinds_length [] (word ∷ words) h = absurd h
 kinds_length (kind ∷ kinds) [] h = absurd h

@@ -15,3 +15,7 @@ pub mod Typed
 pub mod Covered
 pub mod Expressions
 pub mod KindParts
+pub mod ValueFits
+pub mod ReachedTypes
+pub mod IntrinsicFits
+pub mod Sound

@@ -19,3 +19,10 @@ pub mod ValueFits
 pub mod ReachedTypes
 pub mod IntrinsicFits
 pub mod Sound
+pub mod Touching
+pub mod TouchedForms
+pub mod TouchedNodes
+pub mod TouchedCalls
+pub mod TouchedExpressions
+pub mod TouchedStatements
+pub mod TouchedPrograms

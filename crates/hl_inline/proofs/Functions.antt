@@ -50,11 +50,11 @@ every_type P (x ∷ vs) h zero ty e = subst P (same_Some x.ty ty e) h.0
 every_type P (x ∷ vs) h (suc v) ty e = every_type P vs h.1 v ty e
 
 -- the variables of a function have types
-variables_some : (p : Program) (number : ℕ) (d : FunctionDef) → IsFunction p number d → (v : ℕ) (ty : Ty) → variable_type d.variables v ≡ Some ty → IsSome ty
+pub variables_some : (p : Program) (number : ℕ) (d : FunctionDef) → IsFunction p number d → (v : ℕ) (ty : Ty) → variable_type d.variables v ≡ Some ty → IsSome ty
 variables_some p number d is v ty typed =
     every_type IsSome d.variables (every_map (λ x. IsDeclared p.structs x.ty) (λ x. IsSome x.ty) (λ x h. some_declared p.structs x.ty h) d.variables (every_from_all (λ x. IsDeclared p.structs x.ty) d.variables is.variables)) v ty typed
 
-params_some : (variables : List Variable) (parameters : List Parameter) → ((v : ℕ) (ty : Ty) → variable_type variables v ≡ Some ty → IsSome ty) → ParamsSome (map (param_of variables) parameters)
+pub params_some : (variables : List Variable) (parameters : List Parameter) → ((v : ℕ) (ty : Ty) → variable_type variables v ≡ Some ty → IsSome ty) → ParamsSome (map (param_of variables) parameters)
 params_some variables [] h = tt
 params_some variables (p ∷ parameters) h = by_type (variable_type variables p.variable) refl (params_some variables parameters h)
   where

@@ -28,3 +28,10 @@ pub mod Laying
 pub mod Beginnings
 pub mod Functions
 pub mod Whole
+pub mod Touching
+pub mod TouchedForms
+pub mod TouchedNodes
+pub mod TouchedCalls
+pub mod TouchedExpressions
+pub mod TouchedStatements
+pub mod TouchedPrograms

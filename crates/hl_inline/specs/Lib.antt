@@ -7,3 +7,4 @@ pub mod Operands
 pub mod Early
 pub mod Flattening
 pub mod KeepsMeaning
+pub mod KeepsLengths

@@ -15,3 +15,10 @@ pub mod Typed
 pub mod Covered
 pub mod Expressions
 pub mod KindParts
+pub mod Fronts
+pub mod FlatForms
+pub mod FlatCode
+pub mod FlatExprs
+pub mod FlatCalls
+pub mod FlatStatements
+pub mod FlatFunctions

@@ -22,3 +22,4 @@ pub mod FlatExprs
 pub mod FlatCalls
 pub mod FlatStatements
 pub mod FlatFunctions
+pub mod FlatProgram

@@ -1,8 +1,7 @@
 -- What becomes of a call is well formed.
-use Rattle.std.proofs.Common.{◌≡◌, ◌∙◌, refl, sym, ap, subst, ℕ, zero, suc, ◌+◌, ◌<◌, ◌≤◌, ◌⊎◌, inl, inr, Bool, true, false, List, [], ◌∷◌, ◌++◌, map, length, Option, None, Some, slice_get, arith}
-use Rattle.std.specs.Prelude.{if◌then◌else◌, IsTrue, not, option_map}
+use Rattle.std.proofs.Common.{◌≡◌, ◌∙◌, refl, sym, ap, subst, ℕ, suc, ◌+◌, ◌⊎◌, inl, inr, Bool, true, false, List, [], ◌∷◌, ◌++◌, map, Option, None, Some, arith}
+use Rattle.std.specs.Prelude.{if◌then◌else◌, IsTrue, option_map}
 use Rattle.std.proofs.lemmas.Bool.{true≢false}
-use Rattle.std.proofs.lemmas.Option.{none-some, same_Some}
 use Rattle.hl_meaning.specs.declared.program.Copying.{Copying}
 use Rattle.hl_meaning.specs.declared.program.Copying.TheVariants.{CopyBoth, CopyIn, CopyOut}
 use Rattle.hl_meaning.specs.declared.program.Parameter.{Parameter}
@@ -10,17 +9,17 @@ use Rattle.hl_meaning.specs.Types.{Ty, is_void}
 use Rattle.hl_meaning.specs.Trees.{Arg, Args, Expr, Location, a_location, an_expr, call_form, more_args, no_args, place_arg, place_type, read_form, type_of, value_arg}
 use Rattle.hl_meaning.specs.Programs.{Constant, FunctionDef, StructDef, Variable}
 use Rattle.hl_meaning.specs.Places.{Scope, is_writable_place, variable_type}
-use Rattle.hl_meaning.specs.WellFormed.{AreNumberedFrom, ArePassed, IsDeclared, IsExpr, IsForm, IsLocal, IsPassed, IsPlace, IsResult, Param, callee_params, callee_result, param_of}
-use Rattle.hl_inline.specs.FlatTrees.{FlatStmt, flat_block, flat_local, flat_named}
+use Rattle.hl_meaning.specs.WellFormed.{AreNumberedFrom, ArePassed, IsDeclared, IsExpr, IsLocal, IsPassed, IsPlace, IsResult, Param, param_of}
+use Rattle.hl_inline.specs.FlatTrees.{flat_block, flat_local, flat_named}
 use Rattle.hl_inline.specs.FlatViews.{flat_stmts_of}
 use Rattle.hl_inline.specs.FlatWellFormed.{is_named}
-use Rattle.hl_inline.specs.Operands.{arg_exprs, args_exprs, filled_place, place_exprs}
-use Rattle.hl_inline.specs.Flattening.{Argument, Emitter, Fresh, Inlined, Instance, Laid, Passed, Valued, Values, around_body, call, copy_back, emit_all, instance_of, is_call, next_of, nothing_passed, pass_all, passed_with, place_argument, reading, result_variables, start_value, unnamed, value_argument, with_body, with_instance}
+use Rattle.hl_inline.specs.Operands.{args_exprs, filled_place, place_exprs}
+use Rattle.hl_inline.specs.Flattening.{Argument, Emitter, Fresh, Inlined, Instance, Laid, Passed, Valued, Values, call, copy_back, emit_all, instance_of, is_call, next_of, nothing_passed, pass_all, passed_with, place_argument, reading, result_variables, start_value, unnamed, value_argument, with_body, with_instance}
 use Rattle.hl_inline.proofs.Induction.{Every, every_append, every_back, every_front}
 use Rattle.hl_inline.proofs.Typed.{IsSome, IsValue, ParamsSome, place_values, some_declared}
 use Rattle.hl_inline.proofs.Fronts.{IsFront, front_more, front_trans, instance_type, result_type_at, type_there}
 use Rattle.hl_inline.proofs.FlatCode.{AreBelow, AreDeclared, AreFitting, Extends, IsCode, IsFitting, below_more, block_fits, code_append, declared_at, extends_refl, extends_trans, free_name, named_here, no_code, one_code}
-use Rattle.hl_inline.proofs.FlatForms.{ReplaceAll, StandsFrom, all_first, place_filled, place_same, scope_over, writable_filled}
+use Rattle.hl_inline.proofs.FlatForms.{StandsFrom, all_first, place_filled, scope_over, writable_filled}
 use Rattle.hl_inline.proofs.FlatExprs.{Anywhere, AreGiven, IsEmitted, IsGiven, all_given, declared_some, reading_well, result_declared}
 
 -- arguments by what becomes of expressions
@@ -102,6 +101,7 @@ start_well S copying to at number place typed = by_copying copying
   where
     read : IsExpr S (an_expr (place_type to) at (read_form to))
     read = (result_declared S.structs (place_type to) (place_declared S to place), (place, refl))
+
     by_copying : (copying : Copying) → IsLocal S number (start_value copying to at)
     by_copying CopyIn = (read, typed)
     by_copying CopyOut = type_there S.variables number (place_type to) typed
@@ -130,15 +130,19 @@ module _ (s : Scope) (V : List Variable) (R : Type 0) where
   }
     where
       set : R → IsFront x.fresh.variables V → (names : List ℕ) → AreBelow x.fresh.names names → Unit {0} → IsFitting (scope_over s V) names (flat_local number (Some x.value))
-      set r front names below t =
-          ((g.well r front (inl some),
-          subst (λ ty. variable_type V number ≡ Some ty) (sym g.same) (typed (front_trans fresh.variables x.fresh.variables V g.code.extends.grows front))), refl)
+      set r front names below t = (
+        (
+          g.well r front (inl some),
+          subst (λ ty. variable_type V number ≡ Some ty) (sym g.same) (typed (front_trans fresh.variables x.fresh.variables V g.code.extends.grows front)),
+        ),
+        refl,
+      )
 
   -- a place, whose value stands in the variable of a parameter and is written back
   place_in : (i : Instance) (place : Location) (copying : Copying) (at number : ℕ) (fresh : Fresh) (x : Values) (rest : Passed) → (R → StandsFrom s.constants s.variables V i.first) → IsPlace s place →
       IsTrue (is_writable_place s place) → AreGiven (scope_over s V) R (place_exprs place) fresh x → (IsFront fresh.variables V → variable_type V number ≡ Some (place_type place)) → IsPassedIn (scope_over s V) R x.fresh rest →
       IsPassedIn (scope_over s V) R fresh
-          (passed_with (x.code ++ flat_local number (start_value copying (filled_place i.first place x.values) at) ∷ []) (copy_back (filled_place i.first place x.values) at number ∷ []) rest)
+      (passed_with (x.code ++ flat_local number (start_value copying (filled_place i.first place x.values) at) ∷ []) (copy_back (filled_place i.first place x.values) at number ∷ []) rest)
   place_in i place copying at number fresh x rest stands is_place writable g typed p = record {
     code = code_append (scope_over s V) R Anywhere fresh x.fresh rest.fresh (x.code ++ flat_local number (start_value copying (filled_place i.first place x.values) at) ∷ []) rest.code
         (code_append (scope_over s V) R Anywhere fresh x.fresh x.fresh x.code (flat_local number (start_value copying (filled_place i.first place x.values) at) ∷ []) g.code
@@ -151,6 +155,7 @@ module _ (s : Scope) (V : List Variable) (R : Type 0) where
     where
       to_place : R → IsFront x.fresh.variables V → IsPlace (scope_over s V) (filled_place i.first place x.values)
       to_place r front = place_filled s V i.first (stands r) place x.values is_place (all_first (scope_over s V) (place_exprs place) x.values (g.values r front))
+
       to_typed : IsFront x.fresh.variables V → variable_type V number ≡ Some (place_type (filled_place i.first place x.values))
       to_typed front =
           subst (λ ty. variable_type V number ≡ Some ty) (sym (same place)) (typed (front_trans fresh.variables x.fresh.variables V g.code.extends.grows front))
@@ -191,10 +196,13 @@ module _ (s : Scope) (V : List Variable) (R : Type 0) where
     where
       f : (ty : Ty) × (variable_type own p.variable ≡ Some ty) × IsPassed s ty p.copying (place_arg place) × ArePassed s (map (param_of own) parameters) args
       f = first_passed s own p (map (param_of own) parameters) (place_arg place) args passed
+
       h : IsPlace s place × IsTrue (is_writable_place s place) × (place_type place ≡ f.0)
       h = place_passed s f.0 p.copying place f.2
+
       x : Values
       x = emit_all true (map em (place_exprs place)) fresh
+
       g : AreGiven (scope_over s V) R (place_exprs place) fresh (emit_all true (map em (place_exprs place)) fresh)
       g = all_given (scope_over s V) R true s em (place_exprs place) refl (every_front (λ e. IsEmitted (scope_over s V) R e (em e)) (place_exprs place) (args_exprs args) emitted) (place_values s place h.0) fresh
 
@@ -211,15 +219,20 @@ module _ (s : Scope) (V : List Variable) (R : Type 0) where
     where
       own : Instance
       own = instance_of g fresh
+
       first : Fresh
       first = with_instance g ty at fresh
+
       body : Laid
       body = g.body (instance_of g fresh) passed.fresh
+
       b : IsCode (scope_over s V) (StandsAs s.constants d V (instance_of g fresh)) (InsideExit (instance_of g fresh)) passed.fresh (g.body (instance_of g fresh) passed.fresh).fresh (g.body (instance_of g fresh) passed.fresh).code
       b = inlined.body (instance_of g fresh) passed.fresh
+
       result_declares : (b : Bool) → is_void ty ≡ b → AreDeclared s.structs (if b then [] else unnamed ty at ∷ [])
       result_declares true e = tt
       result_declares false e = (declared_some s.structs ty result e, tt)
+
       to_first : Extends s.structs fresh (with_instance g ty at fresh)
       to_first = record {
         grows = front_more fresh.variables (g.variables ++ result_variables ty at);
@@ -227,30 +240,39 @@ module _ (s : Scope) (V : List Variable) (R : Type 0) where
         declared = λ all. every_append (λ v. IsDeclared s.structs v.ty) fresh.variables (g.variables ++ result_variables ty at) all
             (every_append (λ v. IsDeclared s.structs v.ty) g.variables (result_variables ty at) (subst (AreDeclared s.structs) (sym inlined.variables) inlined.own_declared) (result_declares (is_void ty) refl));
       }
+
       to_passed : Extends s.structs fresh passed.fresh
       to_passed = extends_trans s.structs fresh (with_instance g ty at fresh) passed.fresh to_first p.code.extends
+
       first_front : IsFront body.fresh.variables V → IsFront (with_instance g ty at fresh).variables V
       first_front front =
           front_trans (with_instance g ty at fresh).variables passed.fresh.variables V p.code.extends.grows (front_trans passed.fresh.variables body.fresh.variables V b.extends.grows front)
+
       result_there : IsFront body.fresh.variables V → IsSome ty → variable_type V (instance_of g fresh).result ≡ Some ty
       result_there front some = result_type_at fresh.variables g.variables V ty at (first_front front) some
+
       stands_own : R → IsFront body.fresh.variables V → StandsAs s.constants d V (instance_of g fresh)
-      stands_own r front =
-          (record {
-            own_type = λ v t e. instance_type fresh.variables g.variables (result_variables ty at) V v t (first_front front) (subst (λ vs. variable_type vs v ≡ Some t) (sym inlined.variables) e);
-            constant_type = (stands r).constant_type;
-          }, λ some. subst (λ t. variable_type V (instance_of g fresh).result ≡ Some t) (sym is) (result_there front (subst IsSome is some)))
+      stands_own r front = (
+        record {
+          own_type = λ v t e. instance_type fresh.variables g.variables (result_variables ty at) V v t (first_front front) (subst (λ vs. variable_type vs v ≡ Some t) (sym inlined.variables) e);
+          constant_type = (stands r).constant_type;
+        },
+        λ some. subst (λ t. variable_type V (instance_of g fresh).result ≡ Some t) (sym is) (result_there front (subst IsSome is some)),
+      )
+
       named : R → IsFront body.fresh.variables V → (names : List ℕ) → AreBelow fresh.names names → IsFitting (scope_over s V) names (flat_named (instance_of g fresh).exit (flat_block (flat_stmts_of body.code)))
       named r front names below =
           let inside = block_fits (scope_over s V) (fresh.names ∷ names) body.code
-              (b.fits (stands_own r front) front (fresh.names ∷ names) (omega (arith, p.code.extends.names), below_more fresh.names passed.fresh.names names to_passed.names below) (named_here fresh.names names)) in
+          (b.fits (stands_own r front) front (fresh.names ∷ names) (omega (arith, p.code.extends.names), below_more fresh.names passed.fresh.names names to_passed.names below) (named_here fresh.names names)) in
           ((free_name fresh.names fresh.names names (omega arith) below, inside.0), inside.1)
+
       fits : R → IsFront body.fresh.variables V → (names : List ℕ) → AreBelow fresh.names names → Unit {0} →
           AreFitting (scope_over s V) names (passed.code ++ flat_named (instance_of g fresh).exit (flat_block (flat_stmts_of body.code)) ∷ passed.copies)
       fits r front names below t =
           let here : IsFront passed.fresh.variables V = front_trans passed.fresh.variables body.fresh.variables V b.extends.grows front in
           every_append (IsFitting (scope_over s V) names) passed.code (flat_named (instance_of g fresh).exit (flat_block (flat_stmts_of body.code)) ∷ passed.copies)
           (p.code.fits r here names (below_more fresh.names (suc fresh.names) names (omega arith) below) tt) (named r front names below, p.copies r here names)
+
       well : R → IsFront body.fresh.variables V → IsSome ty ⊎ (is_call (an_expr ty at (call_form function args)) ≡ false) → IsExpr (scope_over s V) (reading ty at (instance_of g fresh).result)
       well r front (inl some) = reading_well (scope_over s V) ty at (instance_of g fresh).result (declared_some s.structs ty result some) (result_there front some)
       well r front (inr e) = absurd (true≢false e)

@@ -1,5 +1,5 @@
 -- Statements of a program without calls that are well formed, whatever stands around them.
-use Rattle.std.proofs.Common.{◌≡◌, ◌∙◌, refl, sym, ap, subst, ℕ, zero, suc, ◌+◌, ◌<◌, ◌≤◌, Bool, true, false, List, [], ◌∷◌, ◌++◌, Some, arith}
+use Rattle.std.proofs.Common.{◌≡◌, ◌∙◌, refl, ap, subst, ℕ, zero, suc, ◌<◌, ◌≤◌, Bool, true, false, List, [], ◌∷◌, ◌++◌, Some, arith}
 use Rattle.std.specs.Prelude.{◌==◌, ◌||◌, not, IsTrue}
 use Rattle.std.proofs.lemmas.Bool.{eq-eqb, eqb-true}
 use Rattle.std.proofs.lemmas.Option.{none-some, same_Some}
@@ -7,7 +7,7 @@ use Rattle.hl_meaning.specs.Types.{Ty}
 use Rattle.hl_meaning.specs.Places.{Scope, variable_type}
 use Rattle.hl_meaning.specs.Programs.{StructDef, Variable}
 use Rattle.hl_meaning.specs.WellFormed.{IsDeclared}
-use Rattle.hl_inline.specs.FlatTrees.{FlatStmt, flat_block, no_flat_stmts}
+use Rattle.hl_inline.specs.FlatTrees.{FlatStmt, flat_block}
 use Rattle.hl_inline.specs.FlatViews.{flat_stmts_of}
 use Rattle.hl_inline.specs.FlatWellFormed.{AreFlatStmts, IsFlatStmt, inputs_in, inputs_of, is_named}
 use Rattle.hl_inline.specs.Flattening.{Fresh, as_one, with_variables}
@@ -120,7 +120,7 @@ module _ (S : Scope) (R : Type 0) where
     extends = extends_trans S.structs a b d x.extends y.extends;
     fits = λ r front names below t.
         every_append (IsFitting S names) xs ys (x.fits r (front_trans b.variables d.variables S.variables y.extends.grows front) names below t)
-            (y.fits r front names (below_more a.names b.names names x.extends.names below) t);
+        (y.fits r front names (below_more a.names b.names names x.extends.names below) t);
   }
 
   -- one statement

@@ -1,21 +1,21 @@
 -- What becomes of operands in order is well formed.
-use Rattle.std.proofs.Common.{◌≡◌, ◌∙◌, refl, sym, ap, subst, ℕ, suc, ◌+◌, ◌<◌, ◌≤◌, ◌⊎◌, inl, inr, Bool, true, false, List, [], ◌∷◌, ◌++◌, map, length, Option, None, Some, slice_get, arith}
+use Rattle.std.proofs.Common.{◌≡◌, refl, sym, ap, subst, ℕ, ◌⊎◌, inl, Bool, true, false, List, [], ◌∷◌, map, Some}
 use Rattle.std.specs.Prelude.{◌||◌, ◌&&◌, not, if◌then◌else◌, IsTrue, option_and_then}
 use Rattle.std.proofs.lemmas.Bool.{true≢false}
-use Rattle.hl_meaning.specs.Types.{Ty, array_type, is_void, scalar_type, struct_type, vector_type, void_type}
-use Rattle.hl_meaning.specs.Trees.{Expr, Form, a_location, an_expr, atomic_form, binary_form, build_form, call_form, choose_form, convert_form, intrinsic_form, literal_form, method_form, no_parts, pick_form, read_form, type_of, unary_form, variable_root, write_form}
+use Rattle.hl_meaning.specs.Types.{Ty, array_type, scalar_type, struct_type, vector_type, void_type}
+use Rattle.hl_meaning.specs.Trees.{Expr, Form, an_expr, atomic_form, binary_form, build_form, call_form, choose_form, convert_form, intrinsic_form, literal_form, method_form, pick_form, read_form, type_of, unary_form, write_form}
 use Rattle.hl_meaning.specs.Programs.{StructDef, Variable}
-use Rattle.hl_meaning.specs.Places.{Scope, is_index_within, root_type, variable_type}
-use Rattle.hl_meaning.specs.WellFormed.{IsDeclared, IsExpr, IsForm, IsResult}
-use Rattle.hl_inline.specs.FlatTrees.{FlatStmt, flat_local}
+use Rattle.hl_meaning.specs.Places.{Scope, is_index_within, variable_type}
+use Rattle.hl_meaning.specs.WellFormed.{IsDeclared, IsExpr, IsResult}
+use Rattle.hl_inline.specs.FlatTrees.{flat_local}
 use Rattle.hl_inline.specs.Operands.{filled, operand_exprs}
-use Rattle.hl_inline.specs.Flattening.{Emitter, Fresh, Instance, Valued, Values, any_calls, emit_all, is_call, next_of, over, reading, saved, settled, token_of, unnamed, values_with, with_variables}
+use Rattle.hl_inline.specs.Flattening.{Emitter, Fresh, Instance, Valued, Values, any_calls, emit_all, is_call, next_of, over, reading, saved, settled, token_of, unnamed, values_with}
 use Rattle.hl_inline.proofs.Induction.{Every}
 use Rattle.hl_inline.proofs.OperandLemmas.{is_call_form}
 use Rattle.hl_inline.proofs.Typed.{IsSome, IsValue}
 use Rattle.hl_inline.proofs.Fronts.{IsFront, front_more, front_trans, next_variable}
 use Rattle.hl_inline.proofs.FlatCode.{AreBelow, IsCode, IsFitting, code_append, extends_with, no_code, one_code}
-use Rattle.hl_inline.proofs.FlatForms.{ReplaceAll, Replaces, StandsFrom, form_filled, scope_over}
+use Rattle.hl_inline.proofs.FlatForms.{ReplaceAll, StandsFrom, form_filled, scope_over}
 
 -- types
 
@@ -91,12 +91,18 @@ module _ (S : Scope) (R : Type 0) where
     where
       new : Variable
       new = unnamed (type_of x.value) (token_of x.value)
+
       declared_new : IsDeclared S.structs (type_of x.value)
       declared_new = subst (IsDeclared S.structs) (sym g.same) declared
+
       set : R → IsFront (saved x).fresh.variables S.variables → (names : List ℕ) → AreBelow x.fresh.names names → Unit {0} → IsFitting S names (flat_local (next_of x.fresh) (Some x.value))
-      set r front names below t =
-          ((g.well r (front_trans x.fresh.variables (saved x).fresh.variables S.variables (front_more x.fresh.variables (unnamed (type_of x.value) (token_of x.value) ∷ [])) front) (inl some),
-          next_variable x.fresh.variables S.variables (unnamed (type_of x.value) (token_of x.value)) front), refl)
+      set r front names below t = (
+        (
+          g.well r (front_trans x.fresh.variables (saved x).fresh.variables S.variables (front_more x.fresh.variables (unnamed (type_of x.value) (token_of x.value) ∷ [])) front) (inl some),
+          next_variable x.fresh.variables S.variables (unnamed (type_of x.value) (token_of x.value)) front,
+        ),
+        refl,
+      )
 
   pub settled_given : (further : Bool) (e : Expr) (fresh : Fresh) (x : Valued) → IsDeclared S.structs (type_of e) → IsSome (type_of e) → IsGiven e fresh x → IsGiven e fresh (settled further x)
   settled_given further e fresh x declared some g = by_test (further && not x.fixed)
@@ -111,11 +117,14 @@ module _ (S : Scope) (R : Type 0) where
   one_more_given : (e : Expr) (es : List Expr) (fresh : Fresh) (x : Valued) (y : Values) → IsSome (type_of e) → IsGiven e fresh x → AreGiven es x.fresh y → AreGiven (e ∷ es) fresh (values_with x y)
   one_more_given e es fresh x y some g h = record {
     code = code_append S R Anywhere fresh x.fresh y.fresh x.code y.code g.code h.code;
-    values = λ r front. (record {
-      well = g.well r (front_trans x.fresh.variables y.fresh.variables S.variables h.code.extends.grows front) (inl some);
-      same = g.same;
-      index = g.index;
-    }, h.values r front);
+    values = λ r front. (
+      record {
+        well = g.well r (front_trans x.fresh.variables y.fresh.variables S.variables h.code.extends.grows front) (inl some);
+        same = g.same;
+        index = g.index;
+      },
+      h.values r front,
+    );
   }
 
   -- operands in order

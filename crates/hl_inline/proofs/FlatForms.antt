@@ -1,22 +1,22 @@
 -- A form that isn't a call stays well formed where values take the place of its operands, and the variables of its
 -- function stand further on among those of a program without calls.
-use Rattle.std.proofs.Common.{◌≡◌, ◌∙◌, refl, sym, ap, subst, ℕ, suc, ◌+◌, Bool, true, false, List, [], ◌∷◌, ◌++◌, length, drop, Option, None, Some, slice_get, arith}
+use Rattle.std.proofs.Common.{◌≡◌, ◌∙◌, refl, sym, ap, subst, ℕ, ◌+◌, Bool, true, false, List, [], ◌∷◌, ◌++◌, length, drop, Option, None, Some, slice_get}
 use Rattle.std.specs.Prelude.{◌&&◌, not, if◌then◌else◌, nat_lt, IsTrue, option_and_then, option_map}
 use Rattle.std.proofs.lemmas.Bool.{false≢true, true≢false}
 use Rattle.std.proofs.lemmas.Option.{none-some}
 use Rattle.lane_core.specs.declared.event.AtomicKind.{AtomicKind}
 use Rattle.lane_core.specs.declared.event.AtomicKind.TheVariants.{Add, And, Or, Xor, IMin, IMax, UMin, UMax, Exchange}
-use Rattle.hl_meaning.specs.declared.ty.Kind.TheVariants.{Bool as BoolKind, Int as IntKind, Uint as UintKind}
-use Rattle.hl_meaning.specs.Types.{Ty, array_type, components_type, scalar_type, struct_type, ty_eq, uint_type, vector_type, void_type, with_kind}
+use Rattle.hl_meaning.specs.declared.ty.Kind.TheVariants.{Uint as UintKind}
+use Rattle.hl_meaning.specs.Types.{Ty, array_type, components_type, scalar_type, struct_type, ty_eq, vector_type, void_type}
 use Rattle.hl_meaning.specs.Conversions.{converts}
 use Rattle.hl_meaning.specs.Operators.{binary_type, unary_type}
 use Rattle.hl_meaning.specs.Intrinsics.{TakesAndGives}
-use Rattle.hl_meaning.specs.Trees.{Expr, Exprs, Form, Location, MaybeExpr, MaybeLocation, PathPart, PathParts, Root, Target, a_location, an_expr, atomic_form, binary_form, build_form, bytes_target, call_form, choose_form, constant_root, convert_form, element_root, index_part, intrinsic_form, literal_form, member_part, method_form, more_exprs, more_parts, no_expr, no_exprs, no_location, no_parts, pick_form, place_target, place_type, read_form, shared_root, some_expr, some_location, swizzle_part, type_of, types_of, unary_form, variable_root, write_form}
+use Rattle.hl_meaning.specs.Trees.{Expr, Exprs, Form, Location, MaybeExpr, MaybeLocation, PathParts, Root, Target, a_location, an_expr, atomic_form, binary_form, build_form, bytes_target, call_form, choose_form, constant_root, convert_form, element_root, index_part, intrinsic_form, literal_form, member_part, method_form, more_exprs, more_parts, no_expr, no_exprs, no_location, no_parts, pick_form, place_target, place_type, read_form, shared_root, some_expr, some_location, swizzle_part, type_of, types_of, unary_form, variable_root, write_form}
 use Rattle.hl_meaning.specs.Programs.{Constant, StructDef, Variable}
-use Rattle.hl_meaning.specs.Places.{Scope, has_distinct_letters, has_literal_indexes, is_atomic_place, is_end, is_index_within, is_literal, is_longer_swizzle, is_raw, is_writable, is_writable_place, is_writable_root, is_without_repeats, part_type, path_type, reached_type, root_type, variable_type}
+use Rattle.hl_meaning.specs.Places.{Scope, has_distinct_letters, has_literal_indexes, is_atomic_place, is_end, is_index_within, is_literal, is_writable, is_writable_place, is_without_repeats, part_type, path_type, reached_type, root_type, variable_type}
 use Rattle.hl_meaning.specs.Views.{exprs_of}
 use Rattle.hl_meaning.specs.WellFormed.{AreExprs, AreParts, Assigns, Builds, IsCompared, IsExpr, IsForm, IsMethod, IsOriginal, IsPlace, IsResult, IsTarget, IsWord}
-use Rattle.hl_inline.specs.Operands.{behind_expr_if, behind_target, expr_if_list, exprs_list, filled, filled_expr_if, filled_parts, filled_place, filled_place_if, filled_root, filled_target, first_expr, operand_exprs, parts_exprs, place_exprs, place_if_exprs, root_exprs, target_exprs}
+use Rattle.hl_inline.specs.Operands.{behind_expr_if, behind_target, expr_if_list, exprs_list, filled, filled_expr_if, filled_parts, filled_place, filled_place_if, filled_root, filled_target, first_expr, operand_exprs, parts_exprs, place_exprs, place_if_exprs, target_exprs}
 use Rattle.hl_inline.proofs.OperandLemmas.{is_call_form}
 use Rattle.hl_inline.proofs.Typed.{and_left, and_right, never}
 
@@ -260,6 +260,7 @@ module _ (s : Scope) (V : List Variable) (first : ℕ) (stands : StandsFrom s.co
       given : IsPlace s original × IsTrue (is_writable_place s original) × (place_type original ≡ place_type place) →
           IsPlace (scope_over s V) (filled_place first original to) × IsTrue (is_writable_place (scope_over s V) (filled_place first original to)) × (place_type (filled_place first original to) ≡ place_type (filled_place first place at))
       given h = (place_filled original to h.0 r, writable_filled original to h.1, place_same original to ∙ (h.2 ∙ sym (place_same place at)))
+
       by_kind : (kind : Option AtomicKind) → IsOriginal s (place_target place) kind (some_location original) →
           IsOriginal (scope_over s V) (place_target (filled_place first place at)) kind (some_location (filled_place first original to))
       by_kind None h = given h
@@ -280,6 +281,7 @@ module _ (s : Scope) (V : List Variable) (first : ℕ) (stands : StandsFrom s.co
       given : IsPlace s original × IsTrue (is_writable_place s original) × IsWord (place_type original) →
           IsPlace (scope_over s V) (filled_place first original to) × IsTrue (is_writable_place (scope_over s V) (filled_place first original to)) × IsWord (place_type (filled_place first original to))
       given h = (place_filled original to h.0 r, writable_filled original to h.1, subst IsWord (sym (place_same original to)) h.2)
+
       by_kind : (kind : Option AtomicKind) → IsOriginal s (bytes_target resource address) kind (some_location original) →
           IsOriginal (scope_over s V) (bytes_target other index) kind (some_location (filled_place first original to))
       by_kind None h = given h
@@ -304,9 +306,13 @@ module _ (s : Scope) (V : List Variable) (first : ℕ) (stands : StandsFrom s.co
   write_filled : (ty : Ty) (to : Location) (op : Option ℕ) (common : Ty) (value : Expr) (old : Bool) (values : List Expr) → IsForm s ty (write_form to op common value old) →
       ReplaceFirst (scope_over s V) (place_exprs to ++ value ∷ []) values → IsForm (scope_over s V) ty (filled first (write_form to op common value old) values)
   write_filled ty to op common value old values h r =
-      let w = first_replaces (scope_over s V) value [] (drop (length (place_exprs to)) values) (first_back (scope_over s V) (place_exprs to) (value ∷ []) values r) in
-      (place_filled to values h.0 (first_front (scope_over s V) (place_exprs to) (value ∷ []) values r), writable_filled to values h.1, place_same to values ∙ h.2, w.well,
-      subst (λ t. Assigns op ty common t old) (sym w.same) h.4)
+      let w = first_replaces (scope_over s V) value [] (drop (length (place_exprs to)) values) (first_back (scope_over s V) (place_exprs to) (value ∷ []) values r) in (
+        place_filled to values h.0 (first_front (scope_over s V) (place_exprs to) (value ∷ []) values r),
+        writable_filled to values h.1,
+        place_same to values ∙ h.2,
+        w.well,
+        subst (λ t. Assigns op ty common t old) (sym w.same) h.4,
+      )
 
   convert_filled : (ty : Ty) (value v : Expr) → IsForm s ty (convert_form value) → Replaces (scope_over s V) value v → IsForm (scope_over s V) ty (convert_form v)
   convert_filled ty value v h w = (w.well, subst (λ t. IsTrue (converts t ty)) (sym w.same) h.1, subst (λ t. IsTrue (not (ty_eq t ty))) (sym w.same) h.2)
@@ -348,20 +354,25 @@ module _ (s : Scope) (V : List Variable) (first : ℕ) (stands : StandsFrom s.co
     where
       rest : ReplaceFirst (scope_over s V) (expr_if_list compare ++ value ∷ place_if_exprs original) (behind_target target values)
       rest = first_back (scope_over s V) (target_exprs target) (expr_if_list compare ++ value ∷ place_if_exprs original) values r
+
       behind : ReplaceFirst (scope_over s V) (value ∷ place_if_exprs original) (behind_expr_if compare (behind_target target values))
       behind = behind_compared compare (value ∷ place_if_exprs original) (behind_target target values) rest
+
       w : Replaces (scope_over s V) value (first_expr (behind_expr_if compare (behind_target target values)))
       w = first_replaces (scope_over s V) value (place_if_exprs original) (behind_expr_if compare (behind_target target values)) behind
+
       given : Replaces (scope_over s V) value (first_expr (behind_expr_if compare (behind_target target values))) →
           ReplaceFirst (scope_over s V) (place_if_exprs original) (drop 1 (behind_expr_if compare (behind_target target values))) → IsForm (scope_over s V) ty (filled first (atomic_form target kind compare value original) values)
-      given w last =
-          (h.0,
-          subst (λ t. IsTarget (scope_over s V) t (filled_target first target values)) (sym w.same)
-              (target_filled (type_of value) target values h.1 (first_front (scope_over s V) (target_exprs target) (expr_if_list compare ++ value ∷ place_if_exprs original) values r)),
-          w.well, subst IsWord (sym w.same) h.3,
-          subst (λ t. IsCompared (scope_over s V) t kind (filled_expr_if compare (behind_target target values))) (sym w.same)
-              (compared_filled (type_of value) kind compare (behind_target target values) h.4 (first_front (scope_over s V) (expr_if_list compare) (value ∷ place_if_exprs original) (behind_target target values) rest)),
-          original_filled target kind original values (drop 1 (behind_expr_if compare (behind_target target values))) h.5 last)
+      given w last = (
+        h.0,
+        subst (λ t. IsTarget (scope_over s V) t (filled_target first target values)) (sym w.same)
+            (target_filled (type_of value) target values h.1 (first_front (scope_over s V) (target_exprs target) (expr_if_list compare ++ value ∷ place_if_exprs original) values r)),
+        w.well,
+        subst IsWord (sym w.same) h.3,
+        subst (λ t. IsCompared (scope_over s V) t kind (filled_expr_if compare (behind_target target values))) (sym w.same)
+            (compared_filled (type_of value) kind compare (behind_target target values) h.4 (first_front (scope_over s V) (expr_if_list compare) (value ∷ place_if_exprs original) (behind_target target values) rest)),
+        original_filled target kind original values (drop 1 (behind_expr_if compare (behind_target target values))) h.5 last,
+      )
 
   -- a form that isn't a call, with values in place of its operands
   pub form_filled : (ty : Ty) (form : Form) (values : List Expr) → is_call_form form ≡ false → IsForm s ty form → ReplaceAll (scope_over s V) (operand_exprs form) values → IsForm (scope_over s V) ty (filled first form values)

@@ -1,12 +1,12 @@
 -- What becomes of functions is well formed: of their expressions, and of their bodies behind the functions before them.
-use Rattle.std.proofs.Common.{◌≡◌, ◌∙◌, refl, sym, ap, subst, ℕ, zero, suc, ◌+◌, ◌<◌, ◌≤◌, Bool, true, false, List, [], ◌∷◌, ◌++◌, map, length, take, Option, None, Some, slice_get, unwrap_or, arith}
+use Rattle.std.proofs.Common.{◌≡◌, ◌∙◌, refl, sym, ap, subst, ℕ, zero, suc, ◌+◌, ◌<◌, ◌≤◌, Bool, true, false, List, [], ◌∷◌, ◌++◌, map, length, take, Option, None, Some, slice_get, arith}
 use Rattle.std.specs.Prelude.{filter, if◌then◌else◌}
 use Rattle.std.specs.List.{All, range_with_len}
 use Rattle.std.proofs.lemmas.List.{append_assoc, append-nil}
 use Rattle.std.proofs.lemmas.Option.{none-some, same_Some}
 use Rattle.std.proofs.Math.Seq.{take-append_seam}
 use Rattle.hl_meaning.specs.Types.{Ty, void_type}
-use Rattle.hl_meaning.specs.Trees.{Arg, Args, Expr, Form, an_expr, atomic_form, binary_form, build_form, call_form, choose_form, convert_form, intrinsic_form, literal_form, method_form, more_args, no_args, pick_form, place_arg, read_form, unary_form, value_arg, write_form}
+use Rattle.hl_meaning.specs.Trees.{Args, Expr, Form, an_expr, atomic_form, binary_form, build_form, call_form, choose_form, convert_form, intrinsic_form, literal_form, method_form, more_args, no_args, pick_form, place_arg, read_form, unary_form, value_arg, write_form}
 use Rattle.hl_meaning.specs.Programs.{Constant, FunctionDef, Program, Variable}
 use Rattle.hl_meaning.specs.Places.{Scope, variable_type}
 use Rattle.hl_meaning.specs.WellFormed.{ArePassed, IsDeclared, IsExpr, IsFunction, IsWellFormed, callee_params, callee_result, scope_of}
@@ -14,7 +14,7 @@ use Rattle.hl_meaning.proofs.LayoutForms.{get-next}
 use Rattle.hl_inline.specs.FlatTrees.{flat_local}
 use Rattle.hl_inline.specs.Operands.{args_exprs, operand_exprs}
 use Rattle.hl_inline.specs.Early.{early_in, early_variables, is_in, parameter_numbers}
-use Rattle.hl_inline.specs.Flattening.{Argument, Emitter, Fresh, Inlined, Instance, arg_emitter, args_emitters, call, emit_all, emitter, form_emitter, inlined, inlined_after, inlined_at, laid_with, lay_all, node, outside_loops, place_argument, place_emitters, zeros_first}
+use Rattle.hl_inline.specs.Flattening.{Fresh, Inlined, Instance, arg_emitter, args_emitters, call, emit_all, emitter, inlined, inlined_after, inlined_at, lay_all, node, outside_loops, place_argument, zeros_first}
 use Rattle.hl_inline.proofs.Induction.{Every, Step, by_operands}
 use Rattle.hl_inline.proofs.OperandLemmas.{form_emitter_all, is_call_form, place_emitters_all}
 use Rattle.hl_inline.proofs.Typed.{IsValue, ParamsSome, form_values}
@@ -60,6 +60,7 @@ module _ (s : Scope) (V : List Variable) (R : Type 0) (k : List Inlined) (i : In
     where
       values : Every (IsValue s) (operand_exprs form)
       values = form_values s (callees_some s V k callees) ty form h.1
+
       emitted : IsEmitted (scope_over s V) R (an_expr ty at form) (node i ty at form (map (emitter k i) (operand_exprs form)))
       emitted fresh =
           form_given s V R i ty at form fresh (emit_all false (map (emitter k i) (operand_exprs form)) fresh) stands other h
@@ -70,6 +71,7 @@ module _ (s : Scope) (V : List Variable) (R : Type 0) (k : List Inlined) (i : In
     where
       values : Every (IsValue s) (args_exprs args)
       values = form_values s (callees_some s V k callees) ty (call_form function args) h.1
+
       by_callee : (o : Option FunctionDef) → slice_get s.functions function ≡ o → callee_result o ≡ Some ty → ArePassed s (callee_params o) args →
           IsEmitted (scope_over s V) R (an_expr ty at (call_form function args)) (emitter k i (an_expr ty at (call_form function args)))
       by_callee None e is passed = absurd (none-some ty is)
@@ -199,8 +201,10 @@ inlined_behind p V wf done (f ∷ rest) before whole h =
   where
     here : slice_get p.functions (length done) ≡ Some f
     here = ap (λ l. slice_get l (length done)) whole ∙ get-next done f rest
+
     earlier : take (length done) p.functions ≡ done
     earlier = ap (take (length done)) whole ∙ take-append_seam done (f ∷ rest)
+
     callees : Callees (scope_of p (length done) f) V before
     callees function d e = inlined_get (program_over p V) p.constants done before h function d (ap (λ l. slice_get l function) (sym earlier) ∙ e)
 

@@ -1,27 +1,27 @@
 -- A program that is well formed becomes one without calls that is.
-use Rattle.std.proofs.Common.{◌≡◌, ◌∙◌, refl, sym, ap, subst, ℕ, zero, suc, ◌+◌, ◌<◌, ◌≤◌, Bool, true, false, List, [], ◌∷◌, ◌++◌, map, length, Option, None, Some, slice_get, arith}
+use Rattle.std.proofs.Common.{◌≡◌, ◌∙◌, refl, sym, ap, subst, ℕ, zero, suc, ◌+◌, ◌≤◌, true, List, [], ◌∷◌, ◌++◌, map, length, Option, None, Some, slice_get, arith}
 use Rattle.std.specs.Prelude.{◌&&◌, IsTrue, option_map, replicate, sum_by}
-use Rattle.std.specs.List.{All, list_all}
+use Rattle.std.specs.List.{list_all}
 use Rattle.std.proofs.lemmas.Bool.{true≢false}
-use Rattle.std.proofs.lemmas.List.{append-nil, length-map}
+use Rattle.std.proofs.lemmas.List.{length-map}
 use Rattle.std.proofs.lemmas.List.Sums.{sum_by-cons}
-use Rattle.std.proofs.lemmas.Option.{none-some, slice_get-map}
+use Rattle.std.proofs.lemmas.Option.{slice_get-map}
 use Rattle.hl_meaning.specs.declared.ty.Kind.{Kind}
 use Rattle.hl_meaning.specs.declared.ty.Kind.TheVariants.{Bool as BoolKind, Int as IntKind, Uint as UintKind}
 use Rattle.hl_meaning.specs.declared.program.Parameter.{Parameter}
 use Rattle.hl_meaning.specs.declared.program.Semantic.{Semantic}
 use Rattle.hl_meaning.specs.Types.{Ty, array_type, component_count, is_alike, is_void, kind_eq, scalar_type, struct_type, vector_type, void_type}
-use Rattle.hl_meaning.specs.Trees.{Expr, type_of, types_of}
+use Rattle.hl_meaning.specs.Trees.{types_of}
 use Rattle.hl_meaning.specs.Programs.{Constant, FunctionDef, Program, StructDef, Variable}
 use Rattle.hl_meaning.specs.Places.{Scope, is_without_repeats, variable_type}
 use Rattle.hl_meaning.specs.Layout.{kinds_of, words_of}
 use Rattle.hl_meaning.specs.Views.{exprs_of}
 use Rattle.hl_meaning.specs.Sums.{variable_words}
-use Rattle.hl_meaning.specs.WellFormed.{AreExprs, Builds, HasSemanticIf, HoldWords, IsConstant, IsDeclared, IsEntry, IsEntryIf, IsExpr, IsInput, IsLiteralOf, IsResult, IsWellFormed, most_words, semantic_number}
-use Rattle.hl_inline.specs.FlatTrees.{FlatStmt, flat_block, flat_input, flat_local, flat_named}
+use Rattle.hl_meaning.specs.WellFormed.{AreExprs, Builds, HasSemanticIf, HoldWords, IsConstant, IsDeclared, IsEntry, IsEntryIf, IsExpr, IsInput, IsWellFormed, semantic_number}
+use Rattle.hl_inline.specs.FlatTrees.{FlatStmt, flat_block, flat_named}
 use Rattle.hl_inline.specs.FlatViews.{flat_stmts_of}
 use Rattle.hl_inline.specs.FlatWellFormed.{AreFlatStmts, IsFlat, IsFlatStmt, inputs_in, inputs_of, most_shared_words}
-use Rattle.hl_inline.specs.Flattening.{Fresh, Inlined, Instance, Laid, constant_value, entry_body, entry_fresh, entry_instance, entry_of, flat_around, flattened, literals, inlined_after, inlined_at, set_constants, set_inputs}
+use Rattle.hl_inline.specs.Flattening.{Inlined, Laid, constant_value, entry_body, entry_fresh, entry_instance, entry_of, flat_around, flattened, literals, inlined_after, set_constants, set_inputs}
 use Rattle.hl_inline.specs.FlattenedIsFlat.{FlattenedIsFlat}
 use Rattle.hl_inline.proofs.Induction.{Every, every_append}
 use Rattle.hl_inline.proofs.Typed.{IsSome}
@@ -76,12 +76,14 @@ constant_well S c h =
 constants_set : (S : Scope) (names : List ℕ) (number : ℕ) (constants : List Constant) → Every (IsConstant S.structs) constants →
     ((k : ℕ) (ty : Ty) → option_map (λ c. c.variable.ty) (slice_get constants k) ≡ Some ty → variable_type S.variables (number + k) ≡ Some ty) → AreFitting S names (set_constants S.structs number constants)
 constants_set S names number [] h typed = tt
-constants_set S names number (c ∷ constants) h typed =
-    (((constant_well S c h.0, ap (variable_type S.variables) (plus_zero number) ∙ typed 0 c.variable.ty refl), refl),
-    constants_set S names (suc number) constants h.1 (λ k ty e. ap (variable_type S.variables) (next number k) ∙ typed (suc k) ty e))
+constants_set S names number (c ∷ constants) h typed = (
+  ((constant_well S c h.0, ap (variable_type S.variables) (plus_zero number) ∙ typed 0 c.variable.ty refl), refl),
+  constants_set S names (suc number) constants h.1 (λ k ty e. ap (variable_type S.variables) (next number k) ∙ typed (suc k) ty e),
+)
   where
     plus_zero : (n : ℕ) → n ≡ n + 0
     plus_zero n = omega arith
+
     next : (n k : ℕ) → suc n + k ≡ n + suc k
     next n k = omega arith
 
@@ -96,6 +98,7 @@ inputs_set S names own first typed (p ∷ parameters) h = by_semantic p.semantic
     there : (semantic : Semantic) (o : Option Ty) → variable_type own p.variable ≡ o → HasSemanticIf (Some semantic) o → HasSemanticIf (Some semantic) (variable_type S.variables (first + p.variable))
     there semantic None e h = absurd h
     there semantic (Some ty) e h = subst (HasSemanticIf (Some semantic)) (sym (typed p.variable ty e)) h
+
     by_semantic : (o : Option Semantic) → p.semantic ≡ o → Every (IsFlatStmt S names) (set_inputs first parameters) → Every (IsFlatStmt S names) (set_inputs first (p ∷ parameters))
     by_semantic None e rest = absurd (subst (λ o. HasSemanticIf o (variable_type own p.variable)) e h.0.semantic)
     by_semantic (Some semantic) e rest =
@@ -197,7 +200,7 @@ module _ (p : Program) (d : FunctionDef) (g : Inlined) (body : Laid) (wf : IsWel
   named_fits : IsFitting (program_over p body.fresh.variables) [] (flat_named 0 (flat_block (flat_stmts_of body.code)))
   named_fits =
       let inside = block_fits (program_over p body.fresh.variables) (0 ∷ []) body.code
-          (code.fits (around_stands, no_result) (front_refl body.fresh.variables) (0 ∷ []) (omega arith, tt) (named_here 0 [])) in
+      (code.fits (around_stands, no_result) (front_refl body.fresh.variables) (0 ∷ []) (omega arith, tt) (named_here 0 [])) in
       ((refl, inside.0), inside.1)
 
   around_body_flat : AreFlatStmts (program_over p body.fresh.variables) [] (flat_stmts_of (around_code p g body))

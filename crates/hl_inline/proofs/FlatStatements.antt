@@ -1,21 +1,18 @@
 -- What becomes of statements is well formed.
-use Rattle.std.proofs.Common.{◌≡◌, ◌∙◌, refl, sym, ap, subst, ℕ, zero, suc, ◌+◌, ◌<◌, ◌≤◌, ◌⊎◌, inl, inr, Bool, true, false, List, [], ◌∷◌, ◌++◌, map, length, Option, None, Some, slice_get, arith}
-use Rattle.std.specs.Prelude.{if◌then◌else◌, IsTrue, not, option_map}
-use Rattle.std.proofs.lemmas.Bool.{true≢false}
-use Rattle.std.proofs.lemmas.Option.{none-some, same_Some}
-use Rattle.hl_meaning.specs.Types.{Ty, bool_type, is_void, void_type}
-use Rattle.hl_meaning.specs.Trees.{Args, Expr, Exprs, Form, MaybeStmt, Stmt, Stmts, an_expr, atomic_form, binary_form, block_stmt, break_stmt, build_form, call_form, choose_form, continue_stmt, convert_form, do_stmt, for_stmt, if_stmt, intrinsic_form, literal_form, local_stmt, method_form, more_stmts, no_stmt, no_stmts, pick_form, read_form, return_stmt, run_stmt, some_stmt, type_of, unary_form, while_stmt, write_form}
-use Rattle.hl_meaning.specs.Programs.{FunctionDef, Variable}
+use Rattle.std.proofs.Common.{◌≡◌, ◌∙◌, refl, sym, ap, subst, ℕ, zero, suc, ◌+◌, ◌<◌, ◌≤◌, inl, inr, Bool, true, false, List, [], ◌∷◌, ◌++◌, length, Option, None, Some, arith}
+use Rattle.std.specs.Prelude.{IsTrue, not}
+use Rattle.hl_meaning.specs.Types.{Ty, bool_type, is_void}
+use Rattle.hl_meaning.specs.Trees.{Expr, MaybeStmt, Stmt, Stmts, block_stmt, break_stmt, continue_stmt, do_stmt, for_stmt, if_stmt, local_stmt, more_stmts, no_stmt, no_stmts, return_stmt, run_stmt, some_stmt, type_of, while_stmt}
+use Rattle.hl_meaning.specs.Programs.{Variable}
 use Rattle.hl_meaning.specs.Places.{Scope, variable_type}
-use Rattle.hl_meaning.specs.WellFormed.{AreStmts, IsCondition, IsConditionIf, IsDeclared, IsExpr, IsExprIf, IsLocal, IsReturn, IsStmt, IsStmtIf}
-use Rattle.hl_inline.specs.FlatTrees.{FlatStmt, MaybeFlatStmt, flat_block, flat_if, flat_leave, flat_local, flat_loop, flat_named, flat_run, no_flat_stmt, no_flat_stmts, some_flat_stmt}
+use Rattle.hl_meaning.specs.WellFormed.{AreStmts, IsCondition, IsConditionIf, IsExpr, IsExprIf, IsLocal, IsReturn, IsStmt, IsStmtIf}
+use Rattle.hl_inline.specs.FlatTrees.{FlatStmt, flat_block, flat_if, flat_leave, flat_local, flat_loop, flat_named, flat_run, no_flat_stmts, some_flat_stmt}
 use Rattle.hl_inline.specs.FlatViews.{flat_stmts_of}
-use Rattle.hl_inline.specs.FlatWellFormed.{IsFlatStmtIf, inputs_if, inputs_of, is_named}
-use Rattle.hl_inline.specs.Flattening.{Emitter, Fresh, Inlined, Instance, Jumps, Laid, Valued, as_alternative, as_one, block_of, choice_of, emitted, emitter, is_call, jumps_of, laid, laid_then, laid_with, lay, lay_all, lay_body, lay_if, lay_local, lay_loop, lay_return, lay_run, lay_run_if, lay_test, lay_test_if, nothing_laid, run_of, set_to, test_of, with_jumps}
-use Rattle.hl_inline.proofs.Induction.{Every}
+use Rattle.hl_inline.specs.FlatWellFormed.{IsFlatStmtIf, inputs_if, is_named}
+use Rattle.hl_inline.specs.Flattening.{Fresh, Inlined, Instance, Jumps, Laid, Valued, as_alternative, as_one, block_of, choice_of, emitted, emitter, is_call, jumps_of, laid, laid_with, lay, lay_all, lay_body, lay_if, lay_local, lay_loop, lay_return, lay_run_if, lay_test, lay_test_if, nothing_laid, run_of, set_to, test_of, with_jumps}
 use Rattle.hl_inline.proofs.Typed.{IsSome, never, some_declared}
 use Rattle.hl_inline.proofs.Fronts.{IsFront, front_refl, front_trans, type_there}
-use Rattle.hl_inline.proofs.FlatCode.{AreBelow, AreDeclared, AreFitting, Extends, IsCode, IsFitting, below_more, block_fits, code_append, code_where, declared_at, extends_refl, extends_trans, free_name, named_here, named_later, no_code, one_code, one_fits, other_name}
+use Rattle.hl_inline.proofs.FlatCode.{AreBelow, AreDeclared, AreFitting, Extends, IsCode, below_more, block_fits, code_append, code_where, declared_at, extends_refl, extends_trans, free_name, named_here, named_later, no_code, one_code, one_fits, other_name}
 use Rattle.hl_inline.proofs.FlatForms.{StandsFrom, scope_over}
 use Rattle.hl_inline.proofs.FlatExprs.{Anywhere, IsEmitted, IsGiven}
 
@@ -121,9 +118,8 @@ module _ (S : Scope) (R : Type 0) where
   loop_laid T exit fresh x h f =
       one_code S R T fresh x.fresh (flat_named fresh.names (flat_loop (as_one x.code))) (extends_trans S.structs fresh (with_jumps fresh) x.fresh (jumps_extend S fresh) f.extends) (λ r front names below t.
       let p = one_fits S (fresh.names ∷ names) x.code
-          (f.fits r front (fresh.names ∷ names) (omega arith, below_more fresh.names (suc (suc fresh.names)) names (omega arith) below) (turn_names exit fresh.names names below (h names t))) in
+      (f.fits r front (fresh.names ∷ names) (omega arith, below_more fresh.names (suc (suc fresh.names)) names (omega arith) below) (turn_names exit fresh.names names below (h names t))) in
       ((free_name fresh.names fresh.names names (omega arith) below, p.0), p.1))
-
 
   -- loops over what becomes of their parts
 

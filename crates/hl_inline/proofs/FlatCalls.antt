@@ -14,22 +14,14 @@ use Rattle.hl_inline.specs.FlatTrees.{flat_block, flat_local, flat_named}
 use Rattle.hl_inline.specs.FlatViews.{flat_stmts_of}
 use Rattle.hl_inline.specs.FlatWellFormed.{is_named}
 use Rattle.hl_inline.specs.Operands.{args_exprs, filled_place, place_exprs}
-use Rattle.hl_inline.specs.Flattening.{Argument, Emitter, Fresh, Inlined, Instance, Laid, Passed, Valued, Values, call, copy_back, emit_all, instance_of, is_call, next_of, nothing_passed, pass_all, passed_with, place_argument, reading, result_variables, start_value, unnamed, value_argument, with_body, with_instance}
+use Rattle.hl_inline.specs.Flattening.{Emitter, Fresh, Inlined, Instance, Laid, Passed, Valued, Values, call, copy_back, emit_all, instance_of, is_call, next_of, nothing_passed, pass_all, passed_with, reading, result_variables, start_value, unnamed, with_body, with_instance}
 use Rattle.hl_inline.proofs.Induction.{Every, every_append, every_back, every_front}
+use Rattle.hl_inline.proofs.OperandLemmas.{args_by}
 use Rattle.hl_inline.proofs.Typed.{IsSome, IsValue, ParamsSome, place_values, some_declared}
 use Rattle.hl_inline.proofs.Fronts.{IsFront, front_more, front_trans, instance_type, result_type_at, type_there}
 use Rattle.hl_inline.proofs.FlatCode.{AreBelow, AreDeclared, AreFitting, Extends, IsCode, IsFitting, below_more, block_fits, code_append, declared_at, extends_refl, extends_trans, free_name, named_here, no_code, one_code}
-use Rattle.hl_inline.proofs.FlatForms.{StandsFrom, all_first, place_filled, scope_over, writable_filled}
+use Rattle.hl_inline.proofs.FlatForms.{StandsFrom, all_first, place_filled, place_same, scope_over, writable_filled}
 use Rattle.hl_inline.proofs.FlatExprs.{Anywhere, AreGiven, IsEmitted, IsGiven, all_given, declared_some, reading_well, result_declared}
-
--- arguments by what becomes of expressions
-abbrev pub argument_by : (Expr → Emitter) → Arg → Argument
-argument_by em (value_arg value) = value_argument (em value)
-argument_by em (place_arg place) = place_argument place (map em (place_exprs place))
-
-abbrev pub arguments_by : (Expr → Emitter) → Args → List Argument
-arguments_by em no_args = []
-arguments_by em (more_args first rest) = argument_by em first ∷ arguments_by em rest
 
 -- how arguments are passed
 
@@ -158,10 +150,7 @@ module _ (s : Scope) (V : List Variable) (R : Type 0) where
 
       to_typed : IsFront x.fresh.variables V → variable_type V number ≡ Some (place_type (filled_place i.first place x.values))
       to_typed front =
-          subst (λ ty. variable_type V number ≡ Some ty) (sym (same place)) (typed (front_trans fresh.variables x.fresh.variables V g.code.extends.grows front))
-        where
-          same : (place : Location) → place_type (filled_place i.first place x.values) ≡ place_type place
-          same (a_location ty root parts) = refl
+          subst (λ ty. variable_type V number ≡ Some ty) (sym (place_same i.first place x.values)) (typed (front_trans fresh.variables x.fresh.variables V g.code.extends.grows front))
 
   -- the variable of a parameter among all
   own_typed : (own : List Variable) (base position number variable : ℕ) (ty other : Ty) (fresh : Fresh) → OwnTyped V own base fresh → number ≡ base + position → variable ≡ position → variable_type own variable ≡ Some ty →
@@ -176,12 +165,12 @@ module _ (s : Scope) (V : List Variable) (R : Type 0) where
   pub passing_in : (i : Instance) (em : Expr → Emitter) (own : List Variable) (base at : ℕ) → (R → StandsFrom s.constants s.variables V i.first) → (args : Args) (parameters : List Parameter) (position number : ℕ) →
       number ≡ base + position → AreNumberedFrom position parameters → ArePassed s (map (param_of own) parameters) args → Every (IsValue s) (args_exprs args) →
       Every (λ e. IsEmitted (scope_over s V) R e (em e)) (args_exprs args) → (fresh : Fresh) → OwnTyped V own base fresh →
-      IsPassedIn (scope_over s V) R fresh (pass_all i at number (arguments_by em args) parameters fresh)
+      IsPassedIn (scope_over s V) R fresh (pass_all i at number (args_by em args) parameters fresh)
   passing_in i em own base at stands no_args [] position number here numbered passed values emitted fresh typed = nothing_in fresh
   passing_in i em own base at stands no_args (p ∷ parameters) position number here numbered passed values emitted fresh typed = nothing_in fresh
   passing_in i em own base at stands (more_args arg args) [] position number here numbered passed values emitted fresh typed = absurd passed
   passing_in i em own base at stands (more_args (value_arg value) args) (p ∷ parameters) position number here numbered passed values emitted fresh typed =
-      value_in value number fresh ((em value).emit fresh) (pass_all i at (suc number) (arguments_by em args) parameters ((em value).emit fresh).fresh) values.0.1 (emitted.0 fresh)
+      value_in value number fresh ((em value).emit fresh) (pass_all i at (suc number) (args_by em args) parameters ((em value).emit fresh).fresh) values.0.1 (emitted.0 fresh)
       (own_typed own base position number p.variable f.0 (type_of value) fresh typed here numbered.0 f.1 (value_passed s f.0 p.copying value f.2).1)
       (passing_in i em own base at stands args parameters (suc position) (suc number) (omega (arith, here)) numbered.1 f.3 values.1 emitted.1 ((em value).emit fresh).fresh
       (later_typed own base fresh ((em value).emit fresh).fresh (emitted.0 fresh).code.extends.grows typed))
@@ -189,7 +178,7 @@ module _ (s : Scope) (V : List Variable) (R : Type 0) where
       f : (ty : Ty) × (variable_type own p.variable ≡ Some ty) × IsPassed s ty p.copying (value_arg value) × ArePassed s (map (param_of own) parameters) args
       f = first_passed s own p (map (param_of own) parameters) (value_arg value) args passed
   passing_in i em own base at stands (more_args (place_arg place) args) (p ∷ parameters) position number here numbered passed values emitted fresh typed =
-      place_in i place p.copying at number fresh x (pass_all i at (suc number) (arguments_by em args) parameters x.fresh) stands h.0 h.1 g
+      place_in i place p.copying at number fresh x (pass_all i at (suc number) (args_by em args) parameters x.fresh) stands h.0 h.1 g
       (own_typed own base position number p.variable f.0 (place_type place) fresh typed here numbered.0 f.1 h.2)
       (passing_in i em own base at stands args parameters (suc position) (suc number) (omega (arith, here)) numbered.1 f.3 (every_back (IsValue s) (place_exprs place) (args_exprs args) values)
       (every_back (λ e. IsEmitted (scope_over s V) R e (em e)) (place_exprs place) (args_exprs args) emitted) x.fresh (later_typed own base fresh x.fresh g.code.extends.grows typed))
@@ -280,9 +269,9 @@ module _ (s : Scope) (V : List Variable) (R : Type 0) where
   -- a call
   pub call_given : (i : Instance) (em : Expr → Emitter) (ty : Ty) (at function : ℕ) (args : Args) (d : FunctionDef) (g : Inlined) → (R → StandsFrom s.constants s.variables V i.first) →
       IsInlined (scope_over s V) s.constants d g → d.result ≡ ty → IsResult s.structs ty → ArePassed s (map (param_of d.variables) d.parameters) args → Every (IsValue s) (args_exprs args) →
-      Every (λ e. IsEmitted (scope_over s V) R e (em e)) (args_exprs args) → IsEmitted (scope_over s V) R (an_expr ty at (call_form function args)) (call i ty at g (arguments_by em args))
+      Every (λ e. IsEmitted (scope_over s V) R e (em e)) (args_exprs args) → IsEmitted (scope_over s V) R (an_expr ty at (call_form function args)) (call i ty at g (args_by em args))
   call_given i em ty at function args d g stands inlined is result passed values emitted fresh =
-      body_given i ty at function args d g fresh (pass_all i at (next_of fresh) (arguments_by em args) g.parameters (with_instance g ty at fresh)) stands inlined is result
+      body_given i ty at function args d g fresh (pass_all i at (next_of fresh) (args_by em args) g.parameters (with_instance g ty at fresh)) stands inlined is result
       (passing_in i em g.variables (next_of fresh) at stands args g.parameters 0 (next_of fresh) (omega arith) (subst (AreNumberedFrom 0) (sym inlined.parameters) inlined.numbered)
       (subst (λ ps. ArePassed s (map (param_of g.variables) ps) args) (sym inlined.parameters) (subst (λ vs. ArePassed s (map (param_of vs) d.parameters) args) (sym inlined.variables) passed))
       values emitted (with_instance g ty at fresh) (λ v t e front. instance_type fresh.variables g.variables (result_variables ty at) V v t front e))

@@ -6,7 +6,7 @@ use Rattle.std.proofs.lemmas.List.{append_assoc, append-nil}
 use Rattle.std.proofs.lemmas.Option.{none-some, same_Some}
 use Rattle.std.proofs.Math.Seq.{take-append_seam}
 use Rattle.hl_meaning.specs.Types.{Ty, void_type}
-use Rattle.hl_meaning.specs.Trees.{Args, Expr, Form, an_expr, atomic_form, binary_form, build_form, call_form, choose_form, convert_form, intrinsic_form, literal_form, method_form, more_args, no_args, pick_form, place_arg, read_form, unary_form, value_arg, write_form}
+use Rattle.hl_meaning.specs.Trees.{Args, Expr, Form, an_expr, atomic_form, binary_form, build_form, call_form, choose_form, convert_form, intrinsic_form, literal_form, method_form, pick_form, read_form, unary_form, write_form}
 use Rattle.hl_meaning.specs.Programs.{Constant, FunctionDef, Program, Variable}
 use Rattle.hl_meaning.specs.Places.{Scope, variable_type}
 use Rattle.hl_meaning.specs.WellFormed.{ArePassed, IsDeclared, IsExpr, IsFunction, IsWellFormed, callee_params, callee_result, scope_of}
@@ -14,22 +14,16 @@ use Rattle.hl_meaning.proofs.LayoutForms.{get-next}
 use Rattle.hl_inline.specs.FlatTrees.{flat_local}
 use Rattle.hl_inline.specs.Operands.{args_exprs, operand_exprs}
 use Rattle.hl_inline.specs.Early.{early_in, early_variables, is_in, parameter_numbers}
-use Rattle.hl_inline.specs.Flattening.{Fresh, Inlined, Instance, arg_emitter, args_emitters, call, emit_all, emitter, inlined, inlined_after, inlined_at, lay_all, node, outside_loops, place_argument, zeros_first}
+use Rattle.hl_inline.specs.Flattening.{Fresh, Inlined, Instance, call, emit_all, emitter, inlined, inlined_after, inlined_at, lay_all, node, outside_loops, zeros_first}
 use Rattle.hl_inline.proofs.Induction.{Every, Step, by_operands}
-use Rattle.hl_inline.proofs.OperandLemmas.{form_emitter_all, is_call_form, place_emitters_all}
+use Rattle.hl_inline.proofs.OperandLemmas.{args_emitters_all, form_emitter_all, is_call_form}
 use Rattle.hl_inline.proofs.Typed.{IsValue, ParamsSome, form_values}
 use Rattle.hl_inline.proofs.Fronts.{type_there}
 use Rattle.hl_inline.proofs.FlatCode.{AreDeclared, IsCode, code_append, code_where, extends_refl, no_code, one_code}
 use Rattle.hl_inline.proofs.FlatForms.{StandsFrom, scope_over}
 use Rattle.hl_inline.proofs.FlatExprs.{IsEmitted, all_given, form_given}
-use Rattle.hl_inline.proofs.FlatCalls.{InsideExit, IsInlined, StandsAs, argument_by, arguments_by, call_given, params_some}
+use Rattle.hl_inline.proofs.FlatCalls.{InsideExit, IsInlined, StandsAs, call_given, params_some}
 use Rattle.hl_inline.proofs.FlatStatements.{Inside, stmts_laid, type_at}
-
-arguments_emitted : (k : List Inlined) (i : Instance) (args : Args) → args_emitters k i args ≡ arguments_by (emitter k i) args
-arguments_emitted k i no_args = refl
-arguments_emitted k i (more_args (value_arg value) rest) = ap (λ l. arg_emitter k i (value_arg value) ∷ l) (arguments_emitted k i rest)
-arguments_emitted k i (more_args (place_arg place) rest) =
-    ap (λ es. place_argument place es ∷ args_emitters k i rest) (place_emitters_all k i place) ∙ ap (λ l. argument_by (emitter k i) (place_arg place) ∷ l) (arguments_emitted k i rest)
 
 every_pair : {A : Type 0} (P Q T : A → Type 0) → ((x : A) → P x → Q x → T x) → (xs : List A) → Every P xs → Every Q xs → Every T xs
 every_pair P Q T f [] p q = tt
@@ -76,7 +70,7 @@ module _ (s : Scope) (V : List Variable) (R : Type 0) (k : List Inlined) (i : In
           IsEmitted (scope_over s V) R (an_expr ty at (call_form function args)) (emitter k i (an_expr ty at (call_form function args)))
       by_callee None e is passed = absurd (none-some ty is)
       by_callee (Some d) e is passed =
-          subst (λ l. IsEmitted (scope_over s V) R (an_expr ty at (call_form function args)) (call i ty at (inlined_at k function) l)) (sym (arguments_emitted k i args))
+          subst (λ l. IsEmitted (scope_over s V) R (an_expr ty at (call_form function args)) (call i ty at (inlined_at k function) l)) (sym (args_emitters_all k i args))
           (call_given s V R i (emitter k i) ty at function args d (inlined_at k function) stands (callees function d e) (same_Some d.result ty is) h.0 passed values (operands_emitted (args_exprs args) every values))
 
   emit_step : Step Emitting

@@ -1,7 +1,7 @@
 -- Fronts of lists of variables, and the types of variables behind them.
-use Rattle.std.proofs.Common.{◌≡◌, ◌∙◌, refl, sym, ap, ℕ, zero, suc, ◌+◌, ◌<◌, false, List, [], ◌∷◌, ◌++◌, length, Some, slice_get, arith}
+use Rattle.std.proofs.Common.{◌≡◌, ◌∙◌, refl, sym, ap, ℕ, zero, suc, ◌+◌, ◌<◌, ◌≤◌, false, List, [], ◌∷◌, ◌++◌, length, Some, slice_get, arith}
 use Rattle.std.specs.Prelude.{if◌then◌else◌, option_map}
-use Rattle.std.proofs.lemmas.List.{append_assoc, append-nil}
+use Rattle.std.proofs.lemmas.List.{append_assoc, append-nil, length-append}
 use Rattle.std.proofs.lemmas.Option.{none-some}
 use Rattle.hl_meaning.specs.Types.{Ty, is_void}
 use Rattle.hl_meaning.specs.Places.{variable_type}
@@ -20,6 +20,9 @@ front_trans xs ys zs (m, e) (n, e') = (m ++ n, e' ∙ (ap (λ l. l ++ n) e ∙ a
 
 pub front_more : (xs more : List Variable) → IsFront xs (xs ++ more)
 front_more xs more = (more, refl)
+
+pub front_length : (xs ys : List Variable) → IsFront xs ys → length xs ≤ length ys
+front_length xs ys (m, e) = omega (arith, ap length e, length-append xs m)
 
 -- the variable behind a front
 pub next_variable : (xs V : List Variable) (v : Variable) → IsFront (xs ++ v ∷ []) V → variable_type V (length xs) ≡ Some v.ty

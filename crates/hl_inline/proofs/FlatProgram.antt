@@ -1,5 +1,5 @@
 -- A program that is well formed becomes one without calls that is.
-use Rattle.std.proofs.Common.{◌≡◌, ◌∙◌, refl, sym, ap, subst, ℕ, zero, suc, ◌+◌, ◌≤◌, true, List, [], ◌∷◌, ◌++◌, map, length, Option, None, Some, slice_get, arith}
+use Rattle.std.proofs.Common.{◌≡◌, ◌∙◌, refl, sym, ap, subst, ℕ, zero, suc, ◌+◌, ◌*◌, ◌≤◌, true, List, [], ◌∷◌, ◌++◌, map, length, Option, None, Some, slice_get, arith}
 use Rattle.std.specs.Prelude.{◌&&◌, IsTrue, option_map, replicate, sum_by}
 use Rattle.std.specs.List.{list_all}
 use Rattle.std.proofs.lemmas.Bool.{true≢false}
@@ -16,6 +16,7 @@ use Rattle.hl_meaning.specs.Programs.{Constant, FunctionDef, Program, StructDef,
 use Rattle.hl_meaning.specs.Places.{Scope, is_without_repeats, variable_type}
 use Rattle.hl_meaning.specs.Layout.{kinds_of, words_of}
 use Rattle.hl_meaning.specs.Views.{exprs_of}
+use Rattle.hl_meaning.specs.Stopping.{stopped}
 use Rattle.hl_meaning.specs.Sums.{variable_words}
 use Rattle.hl_meaning.specs.WellFormed.{AreExprs, Builds, HasSemanticIf, HoldWords, IsConstant, IsDeclared, IsEntry, IsEntryIf, IsExpr, IsInput, IsWellFormed, semantic_number}
 use Rattle.hl_inline.specs.FlatTrees.{FlatStmt, flat_block, flat_named}
@@ -242,3 +243,7 @@ flattened_is_flat p wf fits = by_entry (slice_get p.functions p.entry) refl wf.e
         let V = (entry_body p (entry_of p)).fresh.variables in
         let inlined = inlined_get (program_over p V) p.constants p.functions (inlined_after [] p.functions) (functions_inlined p V wf) p.entry d e in
         around_flat p d (entry_of p) (entry_body p (entry_of p)) wf h inlined (inlined.body (entry_instance p (entry_of p)) (entry_fresh p (entry_of p))) fits
+
+-- few words are counted only where there are few
+pub few_words : (words : ℕ) → stopped (4 * words) ≤ 4 * most_shared_words → words ≤ most_shared_words
+few_words words h = omega (arith, h)

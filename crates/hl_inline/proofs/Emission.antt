@@ -1,7 +1,7 @@
 -- What becomes of operands in order does what the operands do.
 use Rattle.std.proofs.Common.{◌≡◌, ◌∙◌, refl, sym, ap, subst, ℕ, ◌+◌, ◌<◌, ◌≤◌, inl, inr, Bool, true, false, List, [], ◌∷◌, ◌++◌, map, length, Option, None, Some, slice_get, unwrap_or, arith}
 use Rattle.std.specs.Prelude.{if◌then◌else◌, option_map, ◌||◌, ◌&&◌, not}
-use Rattle.std.proofs.lemmas.List.{append_assoc, append-nil, length-append}
+use Rattle.std.proofs.lemmas.List.{append-nil, length-append}
 use Rattle.std.proofs.lemmas.Bool.{true≢false}
 use Rattle.std.proofs.lemmas.Option.{none-some, same_Some, slice_get-map}
 use Rattle.lane_core.specs.Lane.{Lane, Run}
@@ -11,7 +11,6 @@ use Rattle.hl_meaning.specs.Places.{variable_type}
 use Rattle.hl_meaning.specs.Programs.{Variable}
 use Rattle.hl_meaning.specs.Layout.{words_of}
 use Rattle.hl_meaning.specs.WellFormed.{most_words}
-use Rattle.hl_meaning.proofs.LayoutForms.{get-next}
 use Rattle.hl_source.specs.State.{Context, Progress, State, after, ends_at, first_then, goes_with, variable_words, with_variable}
 use Rattle.hl_source.specs.Statements.{at_end}
 use Rattle.hl_source.specs.Expressions.{evaluates}
@@ -19,39 +18,14 @@ use Rattle.hl_inline.specs.FlatTrees.{Flat, FlatStmt, flat_local}
 use Rattle.hl_inline.specs.FlatLane.{FlatLeaving, flat_context, flat_done, flat_end, then_flat}
 use Rattle.hl_inline.specs.Flattening.{Emitter, Fresh, Valued, Values, any_calls, emit_all, next_of, saved, settled, token_of, unnamed, values_with}
 use Rattle.hl_inline.proofs.Induction.{Every}
+pub use Rattle.hl_inline.proofs.Fronts.{IsFront, front_length, front_more, front_refl, front_trans, next_variable, type_there}
 use Rattle.hl_inline.proofs.ProgressLemmas.{giving}
 use Rattle.hl_inline.proofs.OperandLemmas.{evaluate_all}
 use Rattle.hl_inline.proofs.Relation.{IsOutside, Keeps, Related, Stands, count_by_sizes, flat_of_context, sizes_at, sizes_in, sizes_set, words_set_other, words_set_same}
-use Rattle.hl_inline.proofs.Reading.{there_by_map}
 use Rattle.hl_inline.proofs.FittingWords.{Fits, fits_length, reading_gives}
 use Rattle.hl_inline.proofs.Performing.{Opens, Runs, Yields, perform, perform_ends, perform_next}
 
--- fronts of lists of variables
-
-abbrev pub IsFront : List Variable → List Variable → Type 0
-IsFront xs ys = (more : List Variable) × (ys ≡ xs ++ more)
-
-pub front_refl : (xs : List Variable) → IsFront xs xs
-front_refl xs = ([], sym (append-nil xs))
-
-pub front_trans : (xs ys zs : List Variable) → IsFront xs ys → IsFront ys zs → IsFront xs zs
-front_trans xs ys zs (m, e) (n, e') = (m ++ n, e' ∙ (ap (λ l. l ++ n) e ∙ append_assoc xs m n))
-
-pub front_more : (xs more : List Variable) → IsFront xs (xs ++ more)
-front_more xs more = (more, refl)
-
-pub front_length : (xs ys : List Variable) → IsFront xs ys → length xs ≤ length ys
-front_length xs ys (m, e) = omega (arith, ap length e, length-append xs m)
-
--- the variable behind a front
-pub next_variable : (xs V : List Variable) (v : Variable) → IsFront (xs ++ v ∷ []) V → variable_type V (length xs) ≡ Some v.ty
-next_variable xs V v (m, e) =
-    ap (λ l. variable_type l (length xs)) (e ∙ append_assoc xs (v ∷ []) m) ∙ ap (λ o. option_map (λ x. x.ty) o) (get-next xs v m)
-
 -- variables
-
-pub type_there : (V : List Variable) (w : ℕ) (ty : Ty) → variable_type V w ≡ Some ty → w < length V
-type_there V w ty e = there_by_map (λ v. v.ty) V w ty e
 
 -- a variable of a type has its words
 pub variable_size : (c : Context) (V : List Variable) (t : State) (w : ℕ) (ty : Ty) → sizes_at t ≡ sizes_in c V → variable_type V w ≡ Some ty → length (variable_words t w) ≡ words_of c.scope.structs ty

@@ -35,3 +35,11 @@ pub mod TouchedCalls
 pub mod TouchedExpressions
 pub mod TouchedStatements
 pub mod TouchedPrograms
+pub mod Fronts
+pub mod FlatForms
+pub mod FlatCode
+pub mod FlatExprs
+pub mod FlatCalls
+pub mod FlatStatements
+pub mod FlatFunctions
+pub mod FlatProgram

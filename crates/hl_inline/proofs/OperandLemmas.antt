@@ -5,11 +5,11 @@ use Rattle.std.proofs.lemmas.Bool.{true≢false}
 use Rattle.std.proofs.Math.Seq.{drop-append_seam, take-append_seam}
 use Rattle.std.specs.List.{concat}
 use Rattle.hl_meaning.specs.Types.{Ty}
-use Rattle.hl_meaning.specs.Trees.{Expr, Exprs, Form, Location, MaybeExpr, MaybeLocation, PathParts, Root, Target, a_location, atomic_form, binary_form, build_form, bytes_target, call_form, choose_form, constant_root, convert_form, element_root, index_part, intrinsic_form, literal_form, member_part, method_form, more_exprs, more_parts, no_expr, no_exprs, no_location, no_parts, pick_form, place_target, read_form, shared_root, some_expr, some_location, swizzle_part, unary_form, variable_root, write_form}
+use Rattle.hl_meaning.specs.Trees.{Args, Expr, Exprs, Form, Location, MaybeExpr, MaybeLocation, PathParts, Root, Target, a_location, atomic_form, binary_form, build_form, bytes_target, call_form, choose_form, constant_root, convert_form, element_root, index_part, intrinsic_form, literal_form, member_part, method_form, more_args, more_exprs, more_parts, no_args, no_expr, no_exprs, no_location, no_parts, pick_form, place_arg, place_target, read_form, shared_root, some_expr, some_location, swizzle_part, unary_form, value_arg, variable_root, write_form}
 use Rattle.hl_source.specs.State.{Context, Progress, State, after, alone, each, first_then, goes_with, joined}
 use Rattle.hl_source.specs.Expressions.{evaluates, indexes, indexes_if, operands, root_index, step_indexes, target_indexes, value_if, values, values_if}
 use Rattle.hl_inline.specs.Operands.{expr_if_list, exprs_list, operand_exprs, parts_exprs, place_exprs, place_if_exprs, root_exprs, target_exprs}
-use Rattle.hl_inline.specs.Flattening.{Inlined, Instance, emitter, expr_if_emitters, exprs_emitters, form_emitter, node, parts_emitters, place_emitters, place_if_emitters, target_emitters}
+use Rattle.hl_inline.specs.Flattening.{Argument, Emitter, Inlined, Instance, args_emitters, emitter, expr_if_emitters, exprs_emitters, form_emitter, node, parts_emitters, place_argument, place_emitters, place_if_emitters, target_emitters, value_argument}
 use Rattle.hl_inline.proofs.ProgressLemmas.{after_assoc, after_cong, after_giving, concat_append, concat_one, each_append, giving, giving_after, giving_cong, giving_giving, giving_same}
 
 abbrev pub is_call_form : Form → Bool
@@ -192,6 +192,19 @@ place_if_emitters_all k i (some_location place) = place_emitters_all k i place
 target_emitters_all : (k : List Inlined) (i : Instance) (target : Target) → target_emitters k i target ≡ map (emitter k i) (target_exprs target)
 target_emitters_all k i (place_target place) = place_emitters_all k i place
 target_emitters_all k i (bytes_target resource address) = refl
+
+-- what becomes of arguments, given what becomes of their expressions
+abbrev pub args_by : (Expr → Emitter) → Args → List Argument
+args_by em no_args = []
+args_by em (more_args (value_arg value) rest) = value_argument (em value) ∷ args_by em rest
+args_by em (more_args (place_arg place) rest) = place_argument place (map em (place_exprs place)) ∷ args_by em rest
+
+pub args_emitters_all : (k : List Inlined) (i : Instance) (args : Args) → args_emitters k i args ≡ args_by (emitter k i) args
+args_emitters_all k i no_args = refl
+args_emitters_all k i (more_args (value_arg value) rest) = ap (λ l. value_argument (emitter k i value) ∷ l) (args_emitters_all k i rest)
+args_emitters_all k i (more_args (place_arg place) rest) =
+    ap (λ es. place_argument place es ∷ args_emitters k i rest) (place_emitters_all k i place) ∙
+    ap (λ l. place_argument place (map (emitter k i) (place_exprs place)) ∷ l) (args_emitters_all k i rest)
 
 map_both : {A B : Type 0} (f : A → B) (xs ys : List A) (us vs : List B) → us ≡ map f xs → vs ≡ map f ys → us ++ vs ≡ map f (xs ++ ys)
 map_both f xs ys us vs e e' = ap (λ l. l ++ vs) e ∙ (ap (λ l. map f xs ++ l) e' ∙ sym (map-append f xs ys))

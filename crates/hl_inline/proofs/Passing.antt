@@ -20,29 +20,17 @@ use Rattle.hl_source.specs.Expressions.{acts, arguments, copies_out, evaluates, 
 use Rattle.hl_inline.specs.FlatTrees.{Flat, FlatStmt, flat_local, flat_run}
 use Rattle.hl_inline.specs.FlatLane.{FlatLeaving, flat_context, flat_done, flat_end, then_flat}
 use Rattle.hl_inline.specs.Operands.{filled_place, place_exprs}
-use Rattle.hl_inline.specs.Flattening.{Argument, Emitter, Fresh, Inlined, Instance, Passed, Valued, Values, args_emitters, copy_back, emit_all, emitter, next_of, pass_all, place_argument, reading, start_value, value_argument}
+use Rattle.hl_inline.specs.Flattening.{Emitter, Fresh, Instance, Passed, Valued, Values, copy_back, emit_all, next_of, pass_all, reading, start_value}
 use Rattle.hl_inline.proofs.Induction.{Every}
 use Rattle.hl_inline.proofs.ProgressLemmas.{after_assoc, after_cong, after_giving, giving}
-use Rattle.hl_inline.proofs.OperandLemmas.{evaluate_all, indexes_all, place_emitters_all}
+use Rattle.hl_inline.proofs.OperandLemmas.{evaluate_all, indexes_all}
+pub use Rattle.hl_inline.proofs.OperandLemmas.{args_by, args_emitters_all}
 use Rattle.hl_inline.proofs.FilledLemmas.{filled_operands}
 use Rattle.hl_inline.proofs.Relation.{Alike, IsOutside, Keeps, KeepsAll, Related, Stands, count_by_sizes, flat_of_context, keeps_all_trans, words_set_other, words_set_same}
 use Rattle.hl_inline.proofs.Reading.{Acting, IsChangedPlace, PlaceIn, acting_follows, alike_read_place, alike_then, alike_write_place}
 use Rattle.hl_inline.proofs.FittingWords.{fits_length, reading_words}
 use Rattle.hl_inline.proofs.Performing.{Opens, Runs, Yields, alike_map, perform, runs_map, runs_then}
 use Rattle.hl_inline.proofs.Emission.{Emits, HasValue, IsFront, KeepsFrom, Later, Stays, all_close, all_grow, all_names, all_typed, front_length, front_refl, front_trans, keeps_from_more, keeps_refl, related_set_other, storing, type_there, variable_size}
-
--- what becomes of arguments, given what becomes of their expressions
-abbrev pub args_by : (Expr → Emitter) → Args → List Argument
-args_by em no_args = []
-args_by em (more_args (value_arg value) rest) = value_argument (em value) ∷ args_by em rest
-args_by em (more_args (place_arg place) rest) = place_argument place (map em (place_exprs place)) ∷ args_by em rest
-
-pub args_emitters_all : (k : List Inlined) (i : Instance) (args : Args) → args_emitters k i args ≡ args_by (emitter k i) args
-args_emitters_all k i no_args = refl
-args_emitters_all k i (more_args (value_arg value) rest) = ap (λ l. value_argument (emitter k i value) ∷ l) (args_emitters_all k i rest)
-args_emitters_all k i (more_args (place_arg place) rest) =
-    ap (λ es. place_argument place es ∷ args_emitters k i rest) (place_emitters_all k i place) ∙
-    ap (λ l. place_argument place (map (emitter k i) (place_exprs place)) ∷ l) (args_emitters_all k i rest)
 
 -- the variables from a number on hold the words of as many parameters
 abbrev pub HeldAs : State → (number : ℕ) → List Parameter → List (List ℕ) → Type 0

@@ -8,3 +8,4 @@ pub mod Early
 pub mod Flattening
 pub mod KeepsMeaning
 pub mod KeepsLengths
+pub mod FlattenedIsFlat

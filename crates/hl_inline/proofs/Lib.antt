@@ -43,3 +43,4 @@ pub mod FlatCalls
 pub mod FlatStatements
 pub mod FlatFunctions
 pub mod FlatProgram
+pub mod Keeping

@@ -9,3 +9,4 @@ pub mod Flattening
 pub mod KeepsMeaning
 pub mod KeepsLengths
 pub mod FlattenedIsFlat
+pub mod Keeps

@@ -1,15 +1,14 @@
 //! Laws on programs without calls: functions that do nothing, and whose contracts say what always holds.
 
-ghost use Rattle.hl_inline.specs.KeepsLengths.{KeepsLengths};
-ghost use Rattle.hl_inline.specs.KeepsMeaning.{KeepsMeaning};
+ghost use Rattle.hl_inline.specs.Keeps.{FlattenedKeeps, KeptIsSameLane};
 
-/// A program that became one without calls keeps its meaning: each lane has the same run, whatever the bound and the
-/// replies are.
-pub fn flattening_keeps_meaning()
-    ensures { KeepsMeaning }
+/// What a program becomes without calls keeps its structs, buffers, groupshared variables and threads, the run of each
+/// lane at each bound and with all replies, and the lengths of its indexed variables.
+pub fn flattened_keeps()
+    ensures { FlattenedKeeps }
 {}
 
-/// Its indexed variables are those of the program, by their lengths.
-pub fn flattening_keeps_lengths()
-    ensures { KeepsLengths }
+/// What keeps all this has the same lanes.
+pub fn kept_is_same_lane()
+    ensures { KeptIsSameLane }
 {}

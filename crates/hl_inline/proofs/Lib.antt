@@ -44,3 +44,4 @@ pub mod FlatStatements
 pub mod FlatFunctions
 pub mod FlatProgram
 pub mod Keeping
+pub mod IndexedExamples

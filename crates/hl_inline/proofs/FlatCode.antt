@@ -17,11 +17,6 @@ use Rattle.hl_inline.proofs.Fronts.{IsFront, front_more, front_refl, front_trans
 abbrev pub AreDeclared : List StructDef → List Variable → Type 0
 AreDeclared structs variables = Every (λ v. IsDeclared structs v.ty) variables
 
-pub declared_at : (structs : List StructDef) (variables : List Variable) (number : ℕ) (ty : Ty) → AreDeclared structs variables → variable_type variables number ≡ Some ty → IsDeclared structs ty
-declared_at structs [] number ty d e = absurd (none-some ty e)
-declared_at structs (v ∷ variables) zero ty d e = subst (IsDeclared structs) (same_Some v.ty ty e) d.0
-declared_at structs (v ∷ variables) (suc number) ty d e = declared_at structs variables number ty d.1 e
-
 -- names
 
 abbrev pub AreBelow : ℕ → List ℕ → Type 0

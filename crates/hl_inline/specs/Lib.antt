@@ -6,4 +6,5 @@ pub mod IndexedVariables
 pub mod Operands
 pub mod Early
 pub mod Flattening
+pub mod KeepsMeaning
 pub mod FlattenedIsFlat

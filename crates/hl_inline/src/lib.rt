@@ -2,5 +2,6 @@
 #![tactic(auto)]
 
 mod flat;
+pub mod laws;
 
 pub use flat::{Flat, FlatStmt, FlatStmts};

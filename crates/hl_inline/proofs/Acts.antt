@@ -7,7 +7,7 @@ use Rattle.lane_core.specs.declared.event.LaneFault.{LaneFault}
 use Rattle.lane_core.specs.declared.event.WaveKind.{WaveKind}
 use Rattle.hl_meaning.specs.declared.ty.Kind.{Kind}
 use Rattle.hl_meaning.specs.Types.{Ty}
-use Rattle.hl_meaning.specs.Trees.{Expr, Form, Location, MaybeLocation, Target, a_location, atomic_form, binary_form, build_form, bytes_target, call_form, choose_form, convert_form, intrinsic_form, literal_form, method_form, no_expr, no_location, pick_form, place_target, place_type, read_form, some_expr, some_location, type_of, unary_form, write_form}
+use Rattle.hl_meaning.specs.Trees.{Expr, Form, Location, MaybeLocation, Target, atomic_form, binary_form, build_form, bytes_target, call_form, choose_form, convert_form, intrinsic_form, literal_form, method_form, no_expr, no_location, pick_form, place_target, place_type, read_form, some_expr, some_location, type_of, unary_form, write_form}
 use Rattle.hl_meaning.specs.Programs.{Variable}
 use Rattle.lane_core.specs.Words.{wrapped}
 use Rattle.hl_source.specs.Operations.{binary_words, component_kind, converted}

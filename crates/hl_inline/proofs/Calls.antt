@@ -1,14 +1,13 @@
 -- A call does what its function's body does in place.
 use Rattle.std.proofs.Common.{◌≡◌, ◌∙◌, refl, sym, ap, subst, ℕ, suc, ◌+◌, ◌<◌, ◌≤◌, inl, inr, false, List, [], ◌∷◌, ◌++◌, length, Some, slice_get, arith}
 use Rattle.std.specs.Prelude.{if◌then◌else◌, option_map, slice_index_or}
-use Rattle.std.proofs.lemmas.List.{append_assoc, length-append}
+use Rattle.std.proofs.lemmas.List.{length-append}
 use Rattle.std.proofs.lemmas.Bool.{true≢false}
 use Rattle.lane_core.specs.Lane.{Exchange, Lane}
 use Rattle.hl_meaning.specs.Types.{Ty, is_void}
 use Rattle.hl_meaning.specs.Trees.{Args, Expr, an_expr, call_form, more_args, no_args}
 use Rattle.hl_meaning.specs.Places.{variable_type}
 use Rattle.hl_meaning.specs.Programs.{Variable}
-use Rattle.hl_meaning.proofs.LayoutForms.{get-front, get-next}
 use Rattle.hl_source.specs.State.{Callee, Context, Progress, State, after, ends_at, goes_with, variable_words}
 use Rattle.hl_source.specs.Memory.{constant_words}
 use Rattle.hl_source.specs.Expressions.{arguments, calls, copies_out, evaluates, no_callee, parameters_of, starts}

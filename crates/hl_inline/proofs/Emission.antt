@@ -1,7 +1,7 @@
 -- What becomes of operands in order does what the operands do.
 use Rattle.std.proofs.Common.{◌≡◌, ◌∙◌, refl, sym, ap, subst, ℕ, ◌+◌, ◌<◌, ◌≤◌, inl, inr, Bool, true, false, List, [], ◌∷◌, ◌++◌, map, length, Option, None, Some, slice_get, unwrap_or, arith}
 use Rattle.std.specs.Prelude.{if◌then◌else◌, option_map, ◌||◌, ◌&&◌, not}
-use Rattle.std.proofs.lemmas.List.{append_assoc, append-nil, length-append}
+use Rattle.std.proofs.lemmas.List.{append-nil, length-append}
 use Rattle.std.proofs.lemmas.Bool.{true≢false}
 use Rattle.std.proofs.lemmas.Option.{none-some, same_Some, slice_get-map}
 use Rattle.lane_core.specs.Lane.{Lane, Run}
@@ -11,7 +11,6 @@ use Rattle.hl_meaning.specs.Places.{variable_type}
 use Rattle.hl_meaning.specs.Programs.{Variable}
 use Rattle.hl_meaning.specs.Layout.{words_of}
 use Rattle.hl_meaning.specs.WellFormed.{most_words}
-use Rattle.hl_meaning.proofs.LayoutForms.{get-next}
 use Rattle.hl_source.specs.State.{Context, Progress, State, after, ends_at, first_then, goes_with, variable_words, with_variable}
 use Rattle.hl_source.specs.Statements.{at_end}
 use Rattle.hl_source.specs.Expressions.{evaluates}
@@ -22,7 +21,6 @@ use Rattle.hl_inline.proofs.Induction.{Every}
 use Rattle.hl_inline.proofs.ProgressLemmas.{giving}
 use Rattle.hl_inline.proofs.OperandLemmas.{evaluate_all}
 use Rattle.hl_inline.proofs.Relation.{IsOutside, Keeps, Related, Stands, count_by_sizes, flat_of_context, sizes_at, sizes_in, sizes_set, words_set_other, words_set_same}
-use Rattle.hl_inline.proofs.Reading.{there_by_map}
 use Rattle.hl_inline.proofs.FittingWords.{Fits, fits_length, reading_gives}
 use Rattle.hl_inline.proofs.Performing.{Opens, Runs, Yields, perform, perform_ends, perform_next}
 use Rattle.hl_inline.proofs.Fronts.{IsFront, front_length, front_more, front_refl, front_trans, next_variable, type_there}

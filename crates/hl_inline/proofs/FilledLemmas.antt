@@ -8,7 +8,6 @@ use Rattle.hl_meaning.specs.Trees.{Expr, Form, Location, MaybeExpr, MaybeLocatio
 use Rattle.hl_meaning.specs.Views.{exprs_of}
 use Rattle.hl_inline.specs.Operands.{behind_expr_if, behind_target, expr_if_list, exprs_list, filled, filled_expr_if, filled_parts, filled_place, filled_place_if, filled_target, first_expr, operand_exprs, parts_exprs, place_exprs, place_if_exprs, target_exprs}
 use Rattle.hl_inline.proofs.OperandLemmas.{grouped, grouped_atomic, is_call_form}
-use Rattle.hl_inline.proofs.Fronts.{front_length}
 
 -- lists of a length
 

@@ -7,7 +7,7 @@ use Rattle.hl_meaning.specs.declared.program.Copying.TheVariants.{CopyBoth, Copy
 use Rattle.hl_meaning.specs.declared.program.Parameter.{Parameter}
 use Rattle.hl_meaning.specs.Types.{Ty, is_void}
 use Rattle.hl_meaning.specs.Trees.{Arg, Args, Expr, Location, a_location, an_expr, call_form, more_args, no_args, place_arg, place_type, read_form, type_of, value_arg}
-use Rattle.hl_meaning.specs.Programs.{Constant, FunctionDef, StructDef, Variable}
+use Rattle.hl_meaning.specs.Programs.{Constant, FunctionDef, Variable}
 use Rattle.hl_meaning.specs.Places.{Scope, is_writable_place, variable_type}
 use Rattle.hl_meaning.specs.WellFormed.{AreNumberedFrom, ArePassed, IsDeclared, IsExpr, IsLocal, IsPassed, IsPlace, IsResult, Param, param_of}
 use Rattle.hl_inline.specs.FlatTrees.{flat_block, flat_local, flat_named}
@@ -17,7 +17,7 @@ use Rattle.hl_inline.specs.Operands.{args_exprs, filled_place, place_exprs}
 use Rattle.hl_inline.specs.Flattening.{Emitter, Fresh, Inlined, Instance, Laid, Passed, Valued, Values, call, copy_back, emit_all, instance_of, is_call, next_of, nothing_passed, pass_all, passed_with, reading, result_variables, start_value, unnamed, with_body, with_instance}
 use Rattle.hl_inline.proofs.Induction.{Every, every_append, every_back, every_front}
 use Rattle.hl_inline.proofs.OperandLemmas.{args_by}
-use Rattle.hl_inline.proofs.Typed.{IsSome, IsValue, ParamsSome, place_values, some_declared}
+use Rattle.hl_inline.proofs.Typed.{IsSome, IsValue, place_values}
 use Rattle.hl_inline.proofs.Fronts.{IsFront, front_more, front_trans, instance_type, result_type_at, type_there}
 use Rattle.hl_inline.proofs.FlatCode.{AreBelow, AreDeclared, AreFitting, Extends, IsCode, IsFitting, below_more, block_fits, code_append, extends_refl, extends_trans, free_name, named_here, no_code, one_code}
 use Rattle.hl_inline.proofs.FlatForms.{StandsFrom, all_first, place_filled, scope_over, writable_filled}

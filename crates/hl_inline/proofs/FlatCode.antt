@@ -1,10 +1,8 @@
 -- Statements of a program without calls that are well formed, whatever stands around them.
-use Rattle.std.proofs.Common.{◌≡◌, ◌∙◌, refl, ap, subst, ℕ, zero, suc, ◌<◌, ◌≤◌, Bool, true, false, List, [], ◌∷◌, ◌++◌, Some, arith}
+use Rattle.std.proofs.Common.{◌≡◌, ◌∙◌, refl, ap, ℕ, ◌<◌, ◌≤◌, Bool, true, false, List, [], ◌∷◌, ◌++◌, arith}
 use Rattle.std.specs.Prelude.{◌==◌, ◌||◌, not, IsTrue}
 use Rattle.std.proofs.lemmas.Bool.{eq-eqb, eqb-true}
-use Rattle.std.proofs.lemmas.Option.{none-some, same_Some}
-use Rattle.hl_meaning.specs.Types.{Ty}
-use Rattle.hl_meaning.specs.Places.{Scope, variable_type}
+use Rattle.hl_meaning.specs.Places.{Scope}
 use Rattle.hl_meaning.specs.Programs.{StructDef, Variable}
 use Rattle.hl_meaning.specs.WellFormed.{IsDeclared}
 use Rattle.hl_inline.specs.FlatTrees.{FlatStmt, flat_block}

@@ -1,7 +1,5 @@
 -- What becomes of functions is well formed: of their expressions, and of their bodies behind the functions before them.
-use Rattle.std.proofs.Common.{◌≡◌, ◌∙◌, refl, sym, ap, subst, ℕ, zero, suc, ◌+◌, ◌<◌, ◌≤◌, Bool, true, false, List, [], ◌∷◌, ◌++◌, map, length, take, Option, None, Some, slice_get, arith}
-use Rattle.std.specs.Prelude.{filter, if◌then◌else◌}
-use Rattle.std.specs.List.{All, range_with_len}
+use Rattle.std.proofs.Common.{◌≡◌, ◌∙◌, refl, sym, ap, subst, ℕ, zero, suc, ◌+◌, ◌<◌, false, List, [], ◌∷◌, ◌++◌, map, length, take, Option, None, Some, slice_get}
 use Rattle.std.proofs.lemmas.List.{append_assoc, append-nil}
 use Rattle.std.proofs.lemmas.Option.{none-some, same_Some}
 use Rattle.std.proofs.Math.Seq.{take-append_seam}
@@ -13,7 +11,7 @@ use Rattle.hl_meaning.specs.WellFormed.{ArePassed, IsDeclared, IsExpr, IsFunctio
 use Rattle.hl_meaning.proofs.LayoutForms.{get-next}
 use Rattle.hl_inline.specs.FlatTrees.{flat_local}
 use Rattle.hl_inline.specs.Operands.{args_exprs, operand_exprs}
-use Rattle.hl_inline.specs.Early.{early_in, early_variables, is_in, parameter_numbers}
+use Rattle.hl_inline.specs.Early.{early_variables}
 use Rattle.hl_inline.specs.Flattening.{Fresh, Inlined, Instance, call, emit_all, emitter, inlined, inlined_after, inlined_at, lay_all, node, outside_loops, zeros_first}
 use Rattle.hl_inline.proofs.EarlyLemmas.{In, early_behind, in_first, in_rest}
 use Rattle.hl_inline.proofs.Induction.{every_map, Every, Step, by_operands, every_both, every_from_all}

@@ -1,17 +1,16 @@
 -- A function that is called and the function in place do the same.
 use Rattle.std.proofs.Common.{◌≡◌, ◌∙◌, refl, sym, ap, subst, ℕ, zero, suc, ◌+◌, ◌<◌, ◌⊎◌, inl, inr, Bool, true, false, List, [], ◌∷◌, ◌++◌, map, length, Option, None, Some, slice_get, get_or, arith}
-use Rattle.std.specs.Prelude.{◌||◌, drop, IsTrue, option_map, replicate, slice_index_or, take}
+use Rattle.std.specs.Prelude.{◌||◌, drop, IsTrue, replicate, slice_index_or, take}
 use Rattle.std.proofs.lemmas.List.{append_assoc, append-nil}
 use Rattle.std.proofs.lemmas.Bool.{true≢false}
 use Rattle.std.proofs.lemmas.Option.{none-some, same_Some, unwrap_or-slice_get}
 use Rattle.std.proofs.Math.Seq.{take-append_seam}
 use Rattle.lane_core.specs.Lane.{Exchange, Lane}
-use Rattle.hl_meaning.specs.declared.program.Parameter.{Parameter}
 use Rattle.hl_meaning.specs.Types.{Ty, array_type, is_void, scalar_type, struct_type, vector_type, void_type}
 use Rattle.hl_meaning.specs.Trees.{Expr}
 use Rattle.hl_meaning.specs.Places.{variable_type}
 use Rattle.hl_meaning.specs.Programs.{FunctionDef, Program, Variable}
-use Rattle.hl_meaning.specs.WellFormed.{IsDeclared, IsExpr, IsFunction, IsWellFormed, callee_params, one_returns, param_of}
+use Rattle.hl_meaning.specs.WellFormed.{IsDeclared, IsExpr, IsFunction, IsWellFormed, callee_params, one_returns}
 use Rattle.hl_meaning.proofs.LayoutForms.{get-next}
 use Rattle.hl_source.specs.State.{Callee, Progress, State, after, ends_at, goes_with, variable_words}
 use Rattle.hl_source.specs.Memory.{zeros_of}
@@ -23,7 +22,7 @@ use Rattle.hl_inline.specs.FlatViews.{flat_stmts_of}
 use Rattle.hl_inline.specs.FlatLane.{FlatLeaving, flat_context, flat_end, flat_to, named_end}
 use Rattle.hl_inline.specs.Early.{declared_in, early_variables, parameter_numbers}
 use Rattle.hl_inline.specs.Flattening.{Fresh, Inlined, Instance, inlined, inlined_after, inlined_at, lay_all, next_of, outside_loops, zeros_first}
-use Rattle.hl_inline.proofs.Induction.{Every, every_map, every_from_all}
+use Rattle.hl_inline.proofs.Induction.{every_map, every_from_all}
 use Rattle.hl_inline.proofs.Relation.{IsOutside, Keeps, Related, Stands, count_by_sizes, flat_of_context}
 use Rattle.hl_inline.proofs.FittingWords.{Fits}
 use Rattle.hl_inline.proofs.Performing.{Runs, Yields, perform, perform_next, perform_one, runs_map}

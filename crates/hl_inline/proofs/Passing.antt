@@ -20,10 +20,10 @@ use Rattle.hl_source.specs.Expressions.{acts, arguments, copies_out, evaluates, 
 use Rattle.hl_inline.specs.FlatTrees.{Flat, FlatStmt, flat_local, flat_run}
 use Rattle.hl_inline.specs.FlatLane.{FlatLeaving, flat_context, flat_done, flat_end, then_flat}
 use Rattle.hl_inline.specs.Operands.{filled_place, place_exprs}
-use Rattle.hl_inline.specs.Flattening.{Argument, Emitter, Fresh, Inlined, Instance, Passed, Valued, Values, args_emitters, copy_back, emit_all, emitter, next_of, pass_all, place_argument, reading, start_value, value_argument}
+use Rattle.hl_inline.specs.Flattening.{Emitter, Fresh, Instance, Passed, Valued, Values, copy_back, emit_all, next_of, pass_all, reading, start_value}
 use Rattle.hl_inline.proofs.Induction.{Every}
 use Rattle.hl_inline.proofs.ProgressLemmas.{after_assoc, after_cong, after_giving, giving}
-use Rattle.hl_inline.proofs.OperandLemmas.{evaluate_all, indexes_all, place_emitters_all, args_by}
+use Rattle.hl_inline.proofs.OperandLemmas.{evaluate_all, indexes_all, args_by}
 use Rattle.hl_inline.proofs.FilledLemmas.{filled_operands}
 use Rattle.hl_inline.proofs.Relation.{Alike, IsOutside, Keeps, KeepsAll, Related, Stands, count_by_sizes, flat_of_context, keeps_all_trans, words_set_other, words_set_same}
 use Rattle.hl_inline.proofs.Reading.{Acting, IsChangedPlace, PlaceIn, acting_follows, alike_read_place, alike_then, alike_write_place}

@@ -29,9 +29,10 @@ use Rattle.hl_inline.specs.Flattening.{constant_value, literals, set_constants, 
 use Rattle.hl_inline.proofs.Induction.{Every}
 use Rattle.hl_inline.proofs.Relation.{count_by_sizes, sizes_at, sizes_in, sizes_set, words_set_other, words_set_same}
 use Rattle.hl_inline.proofs.Performing.{perform}
-use Rattle.hl_inline.proofs.Emission.{type_there, variable_size}
+use Rattle.hl_inline.proofs.Emission.{variable_size}
 use Rattle.hl_inline.proofs.Typed.{and_right, never}
 use Rattle.hl_inline.proofs.FirstStates.{nothing_more, one_more}
+use Rattle.hl_inline.proofs.Fronts.{type_there}
 
 -- variables that are set one after another
 

@@ -1,14 +1,13 @@
 -- A call does what its function's body does in place.
 use Rattle.std.proofs.Common.{◌≡◌, ◌∙◌, refl, sym, ap, subst, ℕ, suc, ◌+◌, ◌<◌, ◌≤◌, inl, inr, false, List, [], ◌∷◌, ◌++◌, length, Some, slice_get, arith}
 use Rattle.std.specs.Prelude.{if◌then◌else◌, option_map, slice_index_or}
-use Rattle.std.proofs.lemmas.List.{append_assoc, length-append}
+use Rattle.std.proofs.lemmas.List.{length-append}
 use Rattle.std.proofs.lemmas.Bool.{true≢false}
 use Rattle.lane_core.specs.Lane.{Exchange, Lane}
 use Rattle.hl_meaning.specs.Types.{Ty, is_void}
 use Rattle.hl_meaning.specs.Trees.{Args, Expr, an_expr, call_form, more_args, no_args}
 use Rattle.hl_meaning.specs.Places.{variable_type}
 use Rattle.hl_meaning.specs.Programs.{Variable}
-use Rattle.hl_meaning.proofs.LayoutForms.{get-front, get-next}
 use Rattle.hl_source.specs.State.{Callee, Context, Progress, State, after, ends_at, goes_with, variable_words}
 use Rattle.hl_source.specs.Memory.{constant_words}
 use Rattle.hl_source.specs.Expressions.{arguments, calls, copies_out, evaluates, no_callee, parameters_of, starts}
@@ -19,8 +18,10 @@ use Rattle.hl_inline.specs.Flattening.{Emitter, Fresh, Inlined, Instance, Passed
 use Rattle.hl_inline.proofs.Relation.{Keeps, Related, Stands, flat_of_context, sizes_at, sizes_in}
 use Rattle.hl_inline.proofs.FittingWords.{Fits, reading_gives}
 use Rattle.hl_inline.proofs.Performing.{Opens, Runs, perform, runs_map, runs_then, runs_with}
-use Rattle.hl_inline.proofs.Emission.{ClosesAs, Emits, HasRoom, HasValue, IsFront, Later, Stays, front_length, front_more, front_trans, type_there}
-use Rattle.hl_inline.proofs.Passing.{ArgsReady, ArgsTyped, HeldAs, arg_type, args_by, pass_grows, pass_names, passing, runs_giving}
+use Rattle.hl_inline.proofs.Emission.{ClosesAs, Emits, HasRoom, HasValue, Later, Stays}
+use Rattle.hl_inline.proofs.Passing.{ArgsReady, ArgsTyped, HeldAs, arg_type, pass_grows, pass_names, passing, runs_giving}
+use Rattle.hl_inline.proofs.Fronts.{IsFront, front_length, front_more, front_trans, instance_type, result_type_at}
+use Rattle.hl_inline.proofs.OperandLemmas.{args_by}
 
 -- Where an instance of a function stands among the variables of a program without calls: its variables, and that of its
 -- result where it has one, are `count` from its first one on.
@@ -67,26 +68,7 @@ pub closes_opens : {A : Type 0} (c : Context) (V : List Variable) (first : ℕ) 
 closes_opens c V first D below more t k (goes_with a s) q (u, e, stays) = (u, e, stays.0.1, (u, stays.1 u (λ w above lower. refl), stays.0))
 closes_opens c V first D below more t k (ends_at run) q e = inl e
 
--- variables behind others, and in front of others
-
-get_behind : {A : Type 0} (xs ys : List A) (v : ℕ) → slice_get (xs ++ ys) (length xs + v) ≡ slice_get ys v
-get_behind [] ys v = ap (slice_get ys) (omega arith)
-get_behind (x ∷ xs) ys v = ap (slice_get (x ∷ (xs ++ ys))) (suc_add (length xs) v) ∙ get_behind xs ys v
-  where
-    suc_add : (m v : ℕ) → suc m + v ≡ suc (m + v)
-    suc_add m v = omega arith
-
-pub type_behind : (xs ys : List Variable) (v : ℕ) → variable_type (xs ++ ys) (length xs + v) ≡ variable_type ys v
-type_behind xs ys v = ap (λ o. option_map (λ x. x.ty) o) (get_behind xs ys v)
-
-pub type_front : (xs ys : List Variable) (v : ℕ) (ty : Ty) → variable_type xs v ≡ Some ty → variable_type (xs ++ ys) v ≡ Some ty
-type_front xs ys v ty e = ap (λ o. option_map (λ x. x.ty) o) (get-front xs ys v (type_there xs v ty e)) ∙ e
-
--- the variables of an instance have their types among all
-pub instance_type : (before own more V : List Variable) (v : ℕ) (ty : Ty) → IsFront (before ++ (own ++ more)) V → variable_type own v ≡ Some ty → variable_type V (length before + v) ≡ Some ty
-instance_type before own more V v ty (rest, e) typed =
-    ap (λ l. variable_type l (length before + v)) (e ∙ append_assoc before (own ++ more) rest) ∙
-    (type_behind before ((own ++ more) ++ rest) v ∙ (type_front (own ++ more) rest v ty (type_front own more v ty typed)))
+-- the variables of parameters
 
 pub args_typed_at : (before own more V : List Variable) (number : ℕ) (args : Args) → IsFront (before ++ (own ++ more)) V → ArgsTyped own number args → ArgsTyped V (length before + number) args
 args_typed_at before own more V number no_args front typed = tt
@@ -97,15 +79,6 @@ args_typed_at before own more V number (more_args arg rest) front typed = (
   where
     next : (m k : ℕ) → m + suc k ≡ suc (m + k)
     next m k = omega arith
-
--- the variable of a result is the first behind those of its function
-pub result_type_at : (before own V : List Variable) (ty : Ty) (at : ℕ) → IsFront (before ++ (own ++ result_variables ty at)) V → is_void ty ≡ false → variable_type V (length before + length own) ≡ Some ty
-result_type_at before own V ty at (rest, e) some =
-    ap (λ l. variable_type l (length before + length own)) (e ∙ append_assoc before (own ++ result_variables ty at) rest) ∙
-    (type_behind before ((own ++ result_variables ty at) ++ rest) (length own) ∙
-    (ap (λ b. variable_type ((own ++ (if b then [] else unnamed ty at ∷ [])) ++ rest) (length own)) some ∙
-    (ap (λ l. variable_type l (length own)) (append_assoc own (unnamed ty at ∷ []) rest) ∙
-    ap (λ o. option_map (λ x. x.ty) o) (get-next own (unnamed ty at) rest))))
 
 pub result_count : (own : List Variable) (ty : Ty) (at : ℕ) → is_void ty ≡ false → length (own ++ result_variables ty at) ≡ length own + 1
 result_count own ty at some = length-append own (result_variables ty at) ∙ ap (λ b. length own + length (if b then [] else unnamed ty at ∷ [])) some

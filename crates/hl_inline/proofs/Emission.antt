@@ -18,12 +18,12 @@ use Rattle.hl_inline.specs.FlatTrees.{Flat, FlatStmt, flat_local}
 use Rattle.hl_inline.specs.FlatLane.{FlatLeaving, flat_context, flat_done, flat_end, then_flat}
 use Rattle.hl_inline.specs.Flattening.{Emitter, Fresh, Valued, Values, any_calls, emit_all, next_of, saved, settled, token_of, unnamed, values_with}
 use Rattle.hl_inline.proofs.Induction.{Every}
-pub use Rattle.hl_inline.proofs.Fronts.{IsFront, front_length, front_more, front_refl, front_trans, next_variable, type_there}
 use Rattle.hl_inline.proofs.ProgressLemmas.{giving}
 use Rattle.hl_inline.proofs.OperandLemmas.{evaluate_all}
 use Rattle.hl_inline.proofs.Relation.{IsOutside, Keeps, Related, Stands, count_by_sizes, flat_of_context, sizes_at, sizes_in, sizes_set, words_set_other, words_set_same}
 use Rattle.hl_inline.proofs.FittingWords.{Fits, fits_length, reading_gives}
 use Rattle.hl_inline.proofs.Performing.{Opens, Runs, Yields, perform, perform_ends, perform_next}
+use Rattle.hl_inline.proofs.Fronts.{IsFront, front_length, front_more, front_refl, front_trans, next_variable, type_there}
 
 -- variables
 

@@ -20,19 +20,15 @@ use Rattle.hl_inline.specs.IndexedVariables.{arg_mentions, args_mentions, call_m
 use Rattle.hl_inline.specs.Operands.{arg_exprs, args_exprs, operand_exprs, place_exprs}
 use Rattle.hl_inline.specs.Flattening.{Inlined, Instance, call, emitter, inlined_at}
 use Rattle.hl_inline.proofs.Induction.{Every, Step, by_operands, every_operand, every_back, every_front, every_map}
-use Rattle.hl_inline.proofs.OperandLemmas.{form_emitter_all, is_call_form}
+use Rattle.hl_inline.proofs.OperandLemmas.{form_emitter_all, is_call_form, args_emitters_all}
 use Rattle.hl_inline.proofs.Relation.{Stands, flat_of_context}
 use Rattle.hl_inline.proofs.Reading.{IsChangedPlace}
 use Rattle.hl_inline.proofs.Emission.{Emits, HasValue}
 use Rattle.hl_inline.proofs.Nodes.{node_emits}
-use Rattle.hl_inline.proofs.Passing.{ArgReady, ArgsReady, ArgsTyped, HasPlaceValue, arg_type, args_emitters_all}
+use Rattle.hl_inline.proofs.Passing.{ArgReady, ArgsReady, ArgsTyped, HasPlaceValue, arg_type}
 use Rattle.hl_inline.proofs.Calls.{CallReady, Inlines, call_emits}
 use Rattle.hl_inline.proofs.Typed.{IsSome, IsValue, ParamsSome, form_values, place_values}
 use Rattle.hl_inline.proofs.Covered.{Covers, CoversExpr, MentionIn, form_in, operands_covered, place_changed, place_covered, place_in}
-
-every_both : {A : Type 0} (P Q : A → Type 0) (xs : List A) → Every P xs → Every Q xs → Every (λ x. P x × Q x) xs
-every_both P Q [] p q = tt
-every_both P Q (x ∷ xs) p q = ((p.0, q.0), every_both P Q xs p.1 q.1)
 
 -- a function that may be called, with what becomes of it
 pub record CalleeIn (c : Context) (V : List Variable) (f : Flat) (lane : Lane) (n : ℕ) (function : ℕ) (d : FunctionDef) (g : Inlined) : Type 0 where

@@ -4,7 +4,7 @@ use Rattle.std.proofs.lemmas.List.{append-nil, length-append, take-append-drop, 
 use Rattle.std.proofs.lemmas.Bool.{true≢false}
 use Rattle.std.proofs.Math.Seq.{drop-append_seam}
 use Rattle.std.specs.List.{concat}
-use Rattle.hl_meaning.specs.Trees.{Expr, Form, Location, MaybeExpr, MaybeLocation, PathParts, Target, a_location, atomic_form, binary_form, build_form, bytes_target, call_form, choose_form, constant_root, convert_form, element_root, index_part, intrinsic_form, literal_form, member_part, method_form, more_parts, no_expr, no_location, no_parts, pick_form, place_target, read_form, shared_root, some_expr, some_location, swizzle_part, unary_form, variable_root, write_form}
+use Rattle.hl_meaning.specs.Trees.{Expr, Form, Location, MaybeExpr, MaybeLocation, PathParts, Target, a_location, atomic_form, binary_form, build_form, bytes_target, call_form, choose_form, constant_root, convert_form, element_root, index_part, intrinsic_form, literal_form, member_part, method_form, more_parts, no_expr, no_location, no_parts, pick_form, place_target, read_form, shared_root, some_expr, some_location, swizzle_part, unary_form, variable_root, write_form, place_type}
 use Rattle.hl_meaning.specs.Views.{exprs_of}
 use Rattle.hl_inline.specs.Operands.{behind_expr_if, behind_target, expr_if_list, exprs_list, filled, filled_expr_if, filled_parts, filled_place, filled_place_if, filled_target, first_expr, operand_exprs, parts_exprs, place_exprs, place_if_exprs, target_exprs}
 use Rattle.hl_inline.proofs.OperandLemmas.{grouped, grouped_atomic, is_call_form}
@@ -161,6 +161,10 @@ filled_operands first (atomic_form target kind compare value original) es _ e =
     by_cut : Cut (length (target_exprs target)) (length (expr_if_list compare ++ value ∷ place_if_exprs original)) es →
         operand_exprs (filled first (atomic_form target kind compare value original) es) ≡ es
     by_cut c = subst (λ l. operand_exprs (filled first (atomic_form target kind compare value original) l) ≡ l) (sym c.whole) (whole c.front c.back c.front_length c.back_length)
+
+-- a place keeps its type
+pub place_type_filled : (first : ℕ) (place : Location) (es : List Expr) → place_type (filled_place first place es) ≡ place_type place
+place_type_filled first (a_location ty root parts) es = refl
 
 -- it has as many operands, and they are grouped alike
 

@@ -7,7 +7,7 @@ use Rattle.hl_meaning.specs.declared.program.Copying.TheVariants.{CopyBoth, Copy
 use Rattle.hl_meaning.specs.declared.program.Parameter.{Parameter}
 use Rattle.hl_meaning.specs.Types.{Ty, is_void}
 use Rattle.hl_meaning.specs.Trees.{Arg, Args, Expr, Location, a_location, an_expr, call_form, more_args, no_args, place_arg, place_type, read_form, type_of, value_arg}
-use Rattle.hl_meaning.specs.Programs.{Constant, FunctionDef, StructDef, Variable}
+use Rattle.hl_meaning.specs.Programs.{Constant, FunctionDef, Variable}
 use Rattle.hl_meaning.specs.Places.{Scope, is_writable_place, variable_type}
 use Rattle.hl_meaning.specs.WellFormed.{AreNumberedFrom, ArePassed, IsDeclared, IsExpr, IsLocal, IsPassed, IsPlace, IsResult, Param, param_of}
 use Rattle.hl_inline.specs.FlatTrees.{flat_block, flat_local, flat_named}
@@ -17,11 +17,12 @@ use Rattle.hl_inline.specs.Operands.{args_exprs, filled_place, place_exprs}
 use Rattle.hl_inline.specs.Flattening.{Emitter, Fresh, Inlined, Instance, Laid, Passed, Valued, Values, call, copy_back, emit_all, instance_of, is_call, next_of, nothing_passed, pass_all, passed_with, reading, result_variables, start_value, unnamed, with_body, with_instance}
 use Rattle.hl_inline.proofs.Induction.{Every, every_append, every_back, every_front}
 use Rattle.hl_inline.proofs.OperandLemmas.{args_by}
-use Rattle.hl_inline.proofs.Typed.{IsSome, IsValue, ParamsSome, place_values, some_declared}
+use Rattle.hl_inline.proofs.Typed.{IsSome, IsValue, place_values}
 use Rattle.hl_inline.proofs.Fronts.{IsFront, front_more, front_trans, instance_type, result_type_at, type_there}
-use Rattle.hl_inline.proofs.FlatCode.{AreBelow, AreDeclared, AreFitting, Extends, IsCode, IsFitting, below_more, block_fits, code_append, declared_at, extends_refl, extends_trans, free_name, named_here, no_code, one_code}
-use Rattle.hl_inline.proofs.FlatForms.{StandsFrom, all_first, place_filled, place_same, scope_over, writable_filled}
+use Rattle.hl_inline.proofs.FlatCode.{AreBelow, AreDeclared, AreFitting, Extends, IsCode, IsFitting, below_more, block_fits, code_append, extends_refl, extends_trans, free_name, named_here, no_code, one_code}
+use Rattle.hl_inline.proofs.FlatForms.{StandsFrom, all_first, place_filled, scope_over, writable_filled}
 use Rattle.hl_inline.proofs.FlatExprs.{Anywhere, AreGiven, IsEmitted, IsGiven, all_given, declared_some, reading_well, result_declared}
+use Rattle.hl_inline.proofs.FilledLemmas.{place_type_filled}
 
 -- how arguments are passed
 
@@ -48,16 +49,6 @@ first_passed s variables p params arg args h = by_type (variable_type variables 
 none_passed : (s : Scope) (params : List (Option Param)) (o : Option Param) → ArePassed s (o ∷ params) no_args → ⊥
 none_passed s params None h = h
 none_passed s params (Some param) h = h
-
--- each parameter of a function has a type
-pub params_some : (structs : List StructDef) (variables : List Variable) (parameters : List Parameter) → AreDeclared structs variables → ParamsSome (map (param_of variables) parameters)
-params_some structs variables [] declared = tt
-params_some structs variables (p ∷ parameters) declared = by_type (variable_type variables p.variable) refl (params_some structs variables parameters declared)
-  where
-    by_type : (o : Option Ty) → variable_type variables p.variable ≡ o → ParamsSome (map (param_of variables) parameters) →
-        ParamsSome (option_map (λ ty. record { ty = ty; copying = p.copying }) o ∷ map (param_of variables) parameters)
-    by_type None e rest = rest
-    by_type (Some ty) e rest = (some_declared structs ty (declared_at structs variables p.variable ty declared e), rest)
 
 -- the instance of a function in place, where S has all variables
 abbrev pub StandsAs : (constants : List Constant) → FunctionDef → List Variable → Instance → Type 0
@@ -150,7 +141,7 @@ module _ (s : Scope) (V : List Variable) (R : Type 0) where
 
       to_typed : IsFront x.fresh.variables V → variable_type V number ≡ Some (place_type (filled_place i.first place x.values))
       to_typed front =
-          subst (λ ty. variable_type V number ≡ Some ty) (sym (place_same i.first place x.values)) (typed (front_trans fresh.variables x.fresh.variables V g.code.extends.grows front))
+          subst (λ ty. variable_type V number ≡ Some ty) (sym (place_type_filled i.first place x.values)) (typed (front_trans fresh.variables x.fresh.variables V g.code.extends.grows front))
 
   -- the variable of a parameter among all
   own_typed : (own : List Variable) (base position number variable : ℕ) (ty other : Ty) (fresh : Fresh) → OwnTyped V own base fresh → number ≡ base + position → variable ≡ position → variable_type own variable ≡ Some ty →

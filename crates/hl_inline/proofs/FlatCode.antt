@@ -1,10 +1,8 @@
 -- Statements of a program without calls that are well formed, whatever stands around them.
-use Rattle.std.proofs.Common.{◌≡◌, ◌∙◌, refl, ap, subst, ℕ, zero, suc, ◌<◌, ◌≤◌, Bool, true, false, List, [], ◌∷◌, ◌++◌, Some, arith}
+use Rattle.std.proofs.Common.{◌≡◌, ◌∙◌, refl, ap, ℕ, ◌<◌, ◌≤◌, Bool, true, false, List, [], ◌∷◌, ◌++◌, arith}
 use Rattle.std.specs.Prelude.{◌==◌, ◌||◌, not, IsTrue}
 use Rattle.std.proofs.lemmas.Bool.{eq-eqb, eqb-true}
-use Rattle.std.proofs.lemmas.Option.{none-some, same_Some}
-use Rattle.hl_meaning.specs.Types.{Ty}
-use Rattle.hl_meaning.specs.Places.{Scope, variable_type}
+use Rattle.hl_meaning.specs.Places.{Scope}
 use Rattle.hl_meaning.specs.Programs.{StructDef, Variable}
 use Rattle.hl_meaning.specs.WellFormed.{IsDeclared}
 use Rattle.hl_inline.specs.FlatTrees.{FlatStmt, flat_block}
@@ -16,11 +14,6 @@ use Rattle.hl_inline.proofs.Fronts.{IsFront, front_more, front_refl, front_trans
 
 abbrev pub AreDeclared : List StructDef → List Variable → Type 0
 AreDeclared structs variables = Every (λ v. IsDeclared structs v.ty) variables
-
-pub declared_at : (structs : List StructDef) (variables : List Variable) (number : ℕ) (ty : Ty) → AreDeclared structs variables → variable_type variables number ≡ Some ty → IsDeclared structs ty
-declared_at structs [] number ty d e = absurd (none-some ty e)
-declared_at structs (v ∷ variables) zero ty d e = subst (IsDeclared structs) (same_Some v.ty ty e) d.0
-declared_at structs (v ∷ variables) (suc number) ty d e = declared_at structs variables number ty d.1 e
 
 -- names
 

@@ -19,6 +19,7 @@ use Rattle.hl_meaning.specs.WellFormed.{AreExprs, AreParts, Assigns, Builds, IsC
 use Rattle.hl_inline.specs.Operands.{behind_expr_if, behind_target, expr_if_list, exprs_list, filled, filled_expr_if, filled_parts, filled_place, filled_place_if, filled_root, filled_target, first_expr, operand_exprs, parts_exprs, place_exprs, place_if_exprs, target_exprs}
 use Rattle.hl_inline.proofs.OperandLemmas.{is_call_form}
 use Rattle.hl_inline.proofs.Typed.{and_left, and_right, never}
+use Rattle.hl_inline.proofs.FilledLemmas.{place_type_filled}
 
 -- what can be named in a program without calls, which has the structs and the memory of another
 abbrev pub scope_over : Scope → List Variable → Scope
@@ -176,9 +177,6 @@ literal_parts s S (more_parts (index_part index) rest) e literal h =
     literal_index (an_expr ty at (method_form resource count address value)) literal h = never literal
     literal_index (an_expr ty at (atomic_form target kind compare value original)) literal h = never literal
 
-pub place_same : (first : ℕ) (place : Location) (values : List Expr) → place_type (filled_place first place values) ≡ place_type place
-place_same first (a_location ty root parts) values = refl
-
 module _ (s : Scope) (V : List Variable) (first : ℕ) (stands : StandsFrom s.constants s.variables V first) where
   parts_filled : (parts : PathParts) (values : List Expr) → AreParts s parts → ReplaceFirst (scope_over s V) (parts_exprs parts) values → AreParts (scope_over s V) (filled_parts parts values)
   parts_filled no_parts values h r = tt
@@ -230,7 +228,7 @@ module _ (s : Scope) (V : List Variable) (first : ℕ) (stands : StandsFrom s.co
       let w = first_replaces (scope_over s V) value [] values r in (h.0, h.1, w.well, w.same ∙ h.3)
 
   target_filled : (ty : Ty) (target : Target) (values : List Expr) → IsTarget s ty target → ReplaceFirst (scope_over s V) (target_exprs target) values → IsTarget (scope_over s V) ty (filled_target first target values)
-  target_filled ty (place_target place) values h r = (place_filled place values h.0 r, place_same first place values ∙ h.1, atomic_filled place values h.2)
+  target_filled ty (place_target place) values h r = (place_filled place values h.0 r, place_type_filled first place values ∙ h.1, atomic_filled place values h.2)
   target_filled ty (bytes_target resource address) values h r = let w = first_replaces (scope_over s V) address [] values r in (h.0, w.well, w.same ∙ h.2)
 
   compared_filled : (ty : Ty) (kind : Option AtomicKind) (compare : MaybeExpr) (values : List Expr) → IsCompared s ty kind compare → ReplaceFirst (scope_over s V) (expr_if_list compare) values →
@@ -259,7 +257,7 @@ module _ (s : Scope) (V : List Variable) (first : ℕ) (stands : StandsFrom s.co
     where
       given : IsPlace s original × IsTrue (is_writable_place s original) × (place_type original ≡ place_type place) →
           IsPlace (scope_over s V) (filled_place first original to) × IsTrue (is_writable_place (scope_over s V) (filled_place first original to)) × (place_type (filled_place first original to) ≡ place_type (filled_place first place at))
-      given h = (place_filled original to h.0 r, writable_filled original to h.1, place_same first original to ∙ (h.2 ∙ sym (place_same first place at)))
+      given h = (place_filled original to h.0 r, writable_filled original to h.1, place_type_filled first original to ∙ (h.2 ∙ sym (place_type_filled first place at)))
 
       by_kind : (kind : Option AtomicKind) → IsOriginal s (place_target place) kind (some_location original) →
           IsOriginal (scope_over s V) (place_target (filled_place first place at)) kind (some_location (filled_place first original to))
@@ -280,7 +278,7 @@ module _ (s : Scope) (V : List Variable) (first : ℕ) (stands : StandsFrom s.co
     where
       given : IsPlace s original × IsTrue (is_writable_place s original) × IsWord (place_type original) →
           IsPlace (scope_over s V) (filled_place first original to) × IsTrue (is_writable_place (scope_over s V) (filled_place first original to)) × IsWord (place_type (filled_place first original to))
-      given h = (place_filled original to h.0 r, writable_filled original to h.1, subst IsWord (sym (place_same first original to)) h.2)
+      given h = (place_filled original to h.0 r, writable_filled original to h.1, subst IsWord (sym (place_type_filled first original to)) h.2)
 
       by_kind : (kind : Option AtomicKind) → IsOriginal s (bytes_target resource address) kind (some_location original) →
           IsOriginal (scope_over s V) (bytes_target other index) kind (some_location (filled_place first original to))
@@ -309,7 +307,7 @@ module _ (s : Scope) (V : List Variable) (first : ℕ) (stands : StandsFrom s.co
       let w = first_replaces (scope_over s V) value [] (drop (length (place_exprs to)) values) (first_back (scope_over s V) (place_exprs to) (value ∷ []) values r) in (
         place_filled to values h.0 (first_front (scope_over s V) (place_exprs to) (value ∷ []) values r),
         writable_filled to values h.1,
-        place_same first to values ∙ h.2,
+        place_type_filled first to values ∙ h.2,
         w.well,
         subst (λ t. Assigns op ty common t old) (sym w.same) h.4,
       )
@@ -377,7 +375,7 @@ module _ (s : Scope) (V : List Variable) (first : ℕ) (stands : StandsFrom s.co
   -- a form that isn't a call, with values in place of its operands
   pub form_filled : (ty : Ty) (form : Form) (values : List Expr) → is_call_form form ≡ false → IsForm s ty form → ReplaceAll (scope_over s V) (operand_exprs form) values → IsForm (scope_over s V) ty (filled first form values)
   form_filled ty (literal_form word) values _ h r = h
-  form_filled ty (read_form place) values _ h r = (place_filled place values h.0 (all_first (scope_over s V) (place_exprs place) values r), place_same first place values ∙ h.1)
+  form_filled ty (read_form place) values _ h r = (place_filled place values h.0 (all_first (scope_over s V) (place_exprs place) values r), place_type_filled first place values ∙ h.1)
   form_filled ty (write_form to op common value old) values _ h r = write_filled ty to op common value old values h (all_first (scope_over s V) (place_exprs to ++ value ∷ []) values r)
   form_filled ty (convert_form value) values _ h r = convert_filled ty value (first_expr values) h (first_replaces (scope_over s V) value [] values (all_first (scope_over s V) (value ∷ []) values r))
   form_filled ty (unary_form op value) values _ h r = unary_filled ty op value (first_expr values) h (first_replaces (scope_over s V) value [] values (all_first (scope_over s V) (value ∷ []) values r))

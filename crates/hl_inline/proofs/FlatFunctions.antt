@@ -1,7 +1,5 @@
 -- What becomes of functions is well formed: of their expressions, and of their bodies behind the functions before them.
-use Rattle.std.proofs.Common.{◌≡◌, ◌∙◌, refl, sym, ap, subst, ℕ, zero, suc, ◌+◌, ◌<◌, ◌≤◌, Bool, true, false, List, [], ◌∷◌, ◌++◌, map, length, take, Option, None, Some, slice_get, arith}
-use Rattle.std.specs.Prelude.{filter, if◌then◌else◌}
-use Rattle.std.specs.List.{All, range_with_len}
+use Rattle.std.proofs.Common.{◌≡◌, ◌∙◌, refl, sym, ap, subst, ℕ, zero, suc, ◌+◌, ◌<◌, false, List, [], ◌∷◌, ◌++◌, map, length, take, Option, None, Some, slice_get}
 use Rattle.std.proofs.lemmas.List.{append_assoc, append-nil}
 use Rattle.std.proofs.lemmas.Option.{none-some, same_Some}
 use Rattle.std.proofs.Math.Seq.{take-append_seam}
@@ -13,21 +11,18 @@ use Rattle.hl_meaning.specs.WellFormed.{ArePassed, IsDeclared, IsExpr, IsFunctio
 use Rattle.hl_meaning.proofs.LayoutForms.{get-next}
 use Rattle.hl_inline.specs.FlatTrees.{flat_local}
 use Rattle.hl_inline.specs.Operands.{args_exprs, operand_exprs}
-use Rattle.hl_inline.specs.Early.{early_in, early_variables, is_in, parameter_numbers}
+use Rattle.hl_inline.specs.Early.{early_variables}
 use Rattle.hl_inline.specs.Flattening.{Fresh, Inlined, Instance, call, emit_all, emitter, inlined, inlined_after, inlined_at, lay_all, node, outside_loops, zeros_first}
-use Rattle.hl_inline.proofs.Induction.{Every, Step, by_operands}
+use Rattle.hl_inline.proofs.EarlyLemmas.{In, early_behind, in_first, in_rest}
+use Rattle.hl_inline.proofs.Induction.{every_map, Every, Step, by_operands, every_both, every_from_all}
 use Rattle.hl_inline.proofs.OperandLemmas.{args_emitters_all, form_emitter_all, is_call_form}
-use Rattle.hl_inline.proofs.Typed.{IsValue, ParamsSome, form_values}
-use Rattle.hl_inline.proofs.Fronts.{type_there}
+use Rattle.hl_inline.proofs.Typed.{some_declared, IsValue, ParamsSome, form_values, params_some}
+use Rattle.hl_inline.proofs.Fronts.{type_there, every_type, type_at}
 use Rattle.hl_inline.proofs.FlatCode.{AreDeclared, IsCode, code_append, code_where, extends_refl, no_code, one_code}
 use Rattle.hl_inline.proofs.FlatForms.{StandsFrom, scope_over}
 use Rattle.hl_inline.proofs.FlatExprs.{IsEmitted, all_given, form_given}
-use Rattle.hl_inline.proofs.FlatCalls.{InsideExit, IsInlined, StandsAs, call_given, params_some}
-use Rattle.hl_inline.proofs.FlatStatements.{Inside, stmts_laid, type_at}
-
-every_pair : {A : Type 0} (P Q T : A → Type 0) → ((x : A) → P x → Q x → T x) → (xs : List A) → Every P xs → Every Q xs → Every T xs
-every_pair P Q T f [] p q = tt
-every_pair P Q T f (x ∷ xs) p q = (f x p.0 q.0, every_pair P Q T f xs p.1 q.1)
+use Rattle.hl_inline.proofs.FlatCalls.{InsideExit, IsInlined, StandsAs, call_given}
+use Rattle.hl_inline.proofs.FlatStatements.{Inside, stmts_laid}
 
 -- each function that may be called is known
 abbrev pub Callees : (s : Scope) (V : List Variable) → List Inlined → Type 0
@@ -38,7 +33,7 @@ callees_some s V k callees function = by_callee (slice_get s.functions function)
   where
     by_callee : (o : Option FunctionDef) → slice_get s.functions function ≡ o → ParamsSome (callee_params o)
     by_callee None e = tt
-    by_callee (Some d) e = params_some s.structs d.variables d.parameters (callees function d e).own_declared
+    by_callee (Some d) e = params_some d.variables d.parameters (λ v ty typed. some_declared s.structs ty (every_type (IsDeclared s.structs) d.variables (callees function d e).own_declared v ty typed))
 
 module _ (s : Scope) (V : List Variable) (R : Type 0) (k : List Inlined) (i : Instance) (stands : R → StandsFrom s.constants s.variables V i.first) (callees : Callees s V k) where
   -- what each step of the induction shows
@@ -46,7 +41,8 @@ module _ (s : Scope) (V : List Variable) (R : Type 0) (k : List Inlined) (i : In
   Emitting e = IsExpr s e → IsEmitted (scope_over s V) R e (emitter k i e)
 
   operands_emitted : (es : List Expr) → Every Emitting es → Every (IsValue s) es → Every (λ e. IsEmitted (scope_over s V) R e (emitter k i e)) es
-  operands_emitted es every values = every_pair Emitting (IsValue s) (λ e. IsEmitted (scope_over s V) R e (emitter k i e)) (λ e f v. f v.0) es every values
+  operands_emitted es every values =
+      every_map (λ e. Emitting e × IsValue s e) (λ e. IsEmitted (scope_over s V) R e (emitter k i e)) (λ e both. both.0 both.1.0) es (every_both Emitting (IsValue s) es every values)
 
   form_step : (ty : Ty) (at : ℕ) (form : Form) → is_call_form form ≡ false → Every Emitting (operand_exprs form) → Emitting (an_expr ty at form)
   form_step ty at form other every h =
@@ -92,41 +88,14 @@ module _ (s : Scope) (V : List Variable) (R : Type 0) (k : List Inlined) (i : In
   pub expr_emitted : (e : Expr) → Emitting e
   expr_emitted e h = by_operands Emitting emit_step e h
 
--- lists
-
-pub every_all : {A : Type 0} (P : A → Type 0) (xs : List A) → Every P xs → All P xs
-every_all P [] h number d low = absurd (omega (arith, low))
-every_all P (x ∷ xs) h zero d low = h.0
-every_all P (x ∷ xs) h (suc number) d low = every_all P xs h.1 number d (omega (arith, low))
-
-pub all_every : {A : Type 0} (P : A → Type 0) (xs : List A) → All P xs → Every P xs
-all_every P [] h = tt
-all_every P (x ∷ xs) h = (h 0 x (omega arith), all_every P xs (λ number d low. h (suc number) d (omega (arith, low))))
-
-every_filter : (P : ℕ → Type 0) (test : ℕ → Bool) (xs : List ℕ) → Every P xs → Every P (filter test xs)
-every_filter P test [] h = tt
-every_filter P test (x ∷ xs) h = by_test (test x) (every_filter P test xs h.1)
-  where
-    by_test : (b : Bool) → Every P (filter test xs) → Every P (if b then x ∷ filter test xs else filter test xs)
-    by_test true rest = (h.0, rest)
-    by_test false rest = rest
-
-below_range : (from count end : ℕ) → from + count ≤ end → Every (λ v. v < end) (range_with_len from count)
-below_range from zero end low = tt
-below_range from (suc count) end low = (omega (arith, low), below_range (from + 1) count end (omega (arith, low)))
-
--- the variables that are set first are those of the function
-early_below : (d : FunctionDef) → Every (λ v. v < length d.variables) (early_variables d)
-early_below d = every_filter (λ v. v < length d.variables) (λ number. is_in (early_in (parameter_numbers d) d.body) number) (range_with_len 0 (length d.variables))
-    (below_range 0 (length d.variables) (length d.variables) (omega arith))
-
-zeros_laid : (S : Scope) (R : Type 0) (T : List ℕ → Type 0) (constants : List Constant) (own : List Variable) (first : ℕ) → (R → StandsFrom constants own S.variables first) → (numbers : List ℕ) → Every (λ v. v < length own) numbers →
+-- the variables that are set first
+zeros_laid : (S : Scope) (R : Type 0) (T : List ℕ → Type 0) (constants : List Constant) (own : List Variable) (first : ℕ) → (R → StandsFrom constants own S.variables first) → (numbers : List ℕ) → ((v : ℕ) → In numbers v → v < length own) →
     (fresh : Fresh) → IsCode S R T fresh fresh (map (λ variable. flat_local (first + variable) None) numbers)
 zeros_laid S R T constants own first stands [] low fresh = no_code S R T fresh
 zeros_laid S R T constants own first stands (number ∷ numbers) low fresh =
     code_append S R T fresh fresh fresh (flat_local (first + number) None ∷ []) (map (λ variable. flat_local (first + variable) None) numbers)
-    (one_code S R T fresh fresh (flat_local (first + number) None) (extends_refl S.structs fresh) (λ r front names below t. (there r (type_at own number low.0), refl)))
-    (zeros_laid S R T constants own first stands numbers low.1 fresh)
+    (one_code S R T fresh fresh (flat_local (first + number) None) (extends_refl S.structs fresh) (λ r front names below t. (there r (type_at own number (low number (in_first number numbers))), refl)))
+    (zeros_laid S R T constants own first stands numbers (λ v among. low v (in_rest number v numbers among)) fresh)
   where
     there : R → (ty : Ty) × (variable_type own number ≡ Some ty) → first + number < length S.variables
     there r t = type_there S.variables (first + number) t.0 ((stands r).own_type number t.0 t.1)
@@ -142,7 +111,7 @@ function_inlined p V number f k h callees = record {
   body = λ own fresh.
       code_append (scope_over (scope_of p number f) V) (StandsAs p.constants f V own) (InsideExit own) fresh fresh (lay_all k own outside_loops f.body fresh).fresh
       (zeros_first own f) (lay_all k own outside_loops f.body fresh).code
-      (zeros_laid (scope_over (scope_of p number f) V) (StandsAs p.constants f V own) (InsideExit own) p.constants f.variables own.first (λ r. r.0) (early_variables f) (early_below f) fresh)
+      (zeros_laid (scope_over (scope_of p number f) V) (StandsAs p.constants f V own) (InsideExit own) p.constants f.variables own.first (λ r. r.0) (early_variables f) (λ v among. (early_behind f v among).1) fresh)
       (code_where (scope_over (scope_of p number f) V) (StandsAs p.constants f V own) (StandsAs p.constants f V own) (Inside own.exit false outside_loops) (InsideExit own) fresh (lay_all k own outside_loops f.body fresh).fresh
       (lay_all k own outside_loops f.body fresh).code (λ r. r) (λ names t. (t, tt))
       (stmts_laid (scope_of p number f) V (StandsAs p.constants f V own) k own (λ r. r.0) (λ r. r.1) declared (expr_emitted (scope_of p number f) V (StandsAs p.constants f V own) k own (λ r. r.0) callees)
@@ -150,7 +119,7 @@ function_inlined p V number f k h callees = record {
 }
   where
     declared : AreDeclared p.structs f.variables
-    declared = all_every (λ v. IsDeclared p.structs v.ty) f.variables h.variables
+    declared = every_from_all (λ v. IsDeclared p.structs v.ty) f.variables h.variables
 
 -- functions, each with what becomes of it
 abbrev pub AreInlined : Scope → List Constant → List FunctionDef → List Inlined → Type 0

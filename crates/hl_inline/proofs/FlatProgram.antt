@@ -23,15 +23,14 @@ use Rattle.hl_inline.specs.FlatTrees.{FlatStmt, flat_block, flat_named}
 use Rattle.hl_inline.specs.FlatViews.{flat_stmts_of}
 use Rattle.hl_inline.specs.FlatWellFormed.{AreFlatStmts, IsFlat, IsFlatStmt, inputs_in, inputs_of, most_shared_words}
 use Rattle.hl_inline.specs.Flattening.{Inlined, Laid, constant_value, entry_body, entry_fresh, entry_instance, entry_of, flat_around, flattened, literals, inlined_after, set_constants, set_inputs}
-use Rattle.hl_inline.specs.FlattenedIsFlat.{FlattenedIsFlat}
-use Rattle.hl_inline.proofs.Induction.{Every, every_append}
+use Rattle.hl_inline.proofs.Induction.{Every, every_append, all_from_every, every_from_all}
 use Rattle.hl_inline.proofs.Typed.{IsSome}
 use Rattle.hl_inline.proofs.Fronts.{IsFront, front_refl, type_behind, type_front}
 use Rattle.hl_inline.proofs.FlatCode.{AreDeclared, AreFitting, IsCode, IsFitting, block_fits, named_here}
 use Rattle.hl_inline.proofs.FlatExprs.{result_declared}
 use Rattle.hl_inline.proofs.FlatForms.{StandsFrom}
 use Rattle.hl_inline.proofs.FlatCalls.{InsideExit, IsInlined, StandsAs}
-use Rattle.hl_inline.proofs.FlatFunctions.{all_every, every_all, functions_inlined, inlined_get, program_over}
+use Rattle.hl_inline.proofs.FlatFunctions.{functions_inlined, inlined_get, program_over}
 
 -- constants
 
@@ -176,10 +175,10 @@ module _ (p : Program) (d : FunctionDef) (g : Inlined) (body : Laid) (wf : IsWel
       (subst (λ own. IsFront (map (λ c. c.variable) p.constants ++ own) body.fresh.variables) inlined.variables code.extends.grows)
 
   all_constants : Every (IsConstant p.structs) p.constants
-  all_constants = all_every (IsConstant p.structs) p.constants wf.constants
+  all_constants = every_from_all (IsConstant p.structs) p.constants wf.constants
 
   all_inputs : Every (IsInput d.variables) g.parameters
-  all_inputs = subst (Every (IsInput d.variables)) (sym inlined.parameters) (all_every (IsInput d.variables) d.parameters entry.inputs)
+  all_inputs = subst (Every (IsInput d.variables)) (sym inlined.parameters) (every_from_all (IsInput d.variables) d.parameters entry.inputs)
 
   around_variables : AreDeclared p.structs body.fresh.variables
   around_variables =
@@ -226,14 +225,14 @@ module _ (p : Program) (d : FunctionDef) (g : Inlined) (body : Laid) (wf : IsWel
     resources = wf.resources;
     shared = wf.shared;
     shared_fits = fits;
-    variables = every_all (λ v. IsDeclared p.structs v.ty) body.fresh.variables around_variables;
+    variables = all_from_every (λ v. IsDeclared p.structs v.ty) body.fresh.variables around_variables;
     body = around_body_flat;
     distinct = subst (λ l. IsTrue (is_without_repeats l)) (sym around_numbers) entry.distinct;
     threads = wf.threads;
   }
 
 -- what becomes of a program
-pub flattened_is_flat : FlattenedIsFlat
+pub flattened_is_flat : (p : Program) → IsWellFormed p → variable_words p.structs p.shared ≤ most_shared_words → IsFlat (flattened p)
 unfolding flattened
 flattened_is_flat p wf fits = by_entry (slice_get p.functions p.entry) refl wf.entry
   where

@@ -1,18 +1,18 @@
 -- What becomes of statements is well formed.
-use Rattle.std.proofs.Common.{◌≡◌, ◌∙◌, refl, sym, ap, subst, ℕ, zero, suc, ◌+◌, ◌<◌, ◌≤◌, inl, inr, Bool, true, false, List, [], ◌∷◌, ◌++◌, length, Option, None, Some, arith}
+use Rattle.std.proofs.Common.{◌≡◌, ◌∙◌, refl, sym, ap, subst, ℕ, suc, ◌+◌, ◌≤◌, inl, inr, Bool, true, false, List, [], ◌∷◌, ◌++◌, Option, None, Some, arith}
 use Rattle.std.specs.Prelude.{IsTrue, not}
 use Rattle.hl_meaning.specs.Types.{Ty, bool_type, is_void}
 use Rattle.hl_meaning.specs.Trees.{Expr, MaybeStmt, Stmt, Stmts, block_stmt, break_stmt, continue_stmt, do_stmt, for_stmt, if_stmt, local_stmt, more_stmts, no_stmt, no_stmts, return_stmt, run_stmt, some_stmt, type_of, while_stmt}
 use Rattle.hl_meaning.specs.Programs.{Variable}
 use Rattle.hl_meaning.specs.Places.{Scope, variable_type}
-use Rattle.hl_meaning.specs.WellFormed.{AreStmts, IsCondition, IsConditionIf, IsExpr, IsExprIf, IsLocal, IsReturn, IsStmt, IsStmtIf}
+use Rattle.hl_meaning.specs.WellFormed.{AreStmts, IsCondition, IsDeclared, IsConditionIf, IsExpr, IsExprIf, IsLocal, IsReturn, IsStmt, IsStmtIf}
 use Rattle.hl_inline.specs.FlatTrees.{FlatStmt, flat_block, flat_if, flat_leave, flat_local, flat_loop, flat_named, flat_run, no_flat_stmts, some_flat_stmt}
 use Rattle.hl_inline.specs.FlatViews.{flat_stmts_of}
 use Rattle.hl_inline.specs.FlatWellFormed.{IsFlatStmtIf, inputs_if, is_named}
 use Rattle.hl_inline.specs.Flattening.{Fresh, Inlined, Instance, Jumps, Laid, Valued, as_alternative, as_one, block_of, choice_of, emitted, emitter, is_call, jumps_of, laid, laid_with, lay, lay_all, lay_body, lay_if, lay_local, lay_loop, lay_return, lay_run_if, lay_test, lay_test_if, nothing_laid, run_of, set_to, test_of, with_jumps}
 use Rattle.hl_inline.proofs.Typed.{IsSome, never, some_declared}
-use Rattle.hl_inline.proofs.Fronts.{IsFront, front_refl, front_trans, type_there}
-use Rattle.hl_inline.proofs.FlatCode.{AreBelow, AreDeclared, AreFitting, Extends, IsCode, below_more, block_fits, code_append, code_where, declared_at, extends_refl, extends_trans, free_name, named_here, named_later, no_code, one_code, one_fits, other_name}
+use Rattle.hl_inline.proofs.Fronts.{IsFront, front_refl, front_trans, type_there, every_type, type_at}
+use Rattle.hl_inline.proofs.FlatCode.{AreBelow, AreDeclared, AreFitting, Extends, IsCode, below_more, block_fits, code_append, code_where, extends_refl, extends_trans, free_name, named_here, named_later, no_code, one_code, one_fits, other_name}
 use Rattle.hl_inline.proofs.FlatForms.{StandsFrom, scope_over}
 use Rattle.hl_inline.proofs.FlatExprs.{Anywhere, IsEmitted, IsGiven}
 
@@ -143,12 +143,6 @@ module _ (S : Scope) (R : Type 0) where
   do_laid T exit fresh body test h b g = loop_laid T exit fresh (laid_with (lay_body (suc fresh.names) body).code test) h
       (then_laid (InTurn exit fresh.names) (with_jumps fresh) (lay_body (suc fresh.names) body) test (body_laid exit fresh (with_jumps fresh) body (omega arith) b) g)
 
--- a variable that is there has a type
-pub type_at : (V : List Variable) (number : ℕ) → number < length V → (ty : Ty) × (variable_type V number ≡ Some ty)
-type_at [] number low = absurd (omega (arith, low))
-type_at (v ∷ V) zero low = (v.ty, refl)
-type_at (v ∷ V) (suc number) low = type_at V number (omega (arith, low))
-
 has_some : (ty : Ty) → IsTrue (not (is_void ty)) → IsSome ty
 has_some ty h = by_test (is_void ty) h
   where
@@ -165,7 +159,7 @@ module _ (s : Scope) (V : List Variable) (R : Type 0) (k : List Inlined) (i : In
       one_code (scope_over s V) R T fresh fresh (flat_local (i.first + variable) None) (extends_refl s.structs fresh)
       (λ r front names below n. (type_there V (i.first + variable) t.0 ((stands r).own_type variable t.0 t.1), refl))
   local_laid T variable (Some init) h fresh =
-      set_laid (scope_over s V) R T init (i.first + variable) fresh (emitted k i init fresh) (some_declared s.structs (type_of init) (declared_at s.structs s.variables variable (type_of init) declared h.1))
+      set_laid (scope_over s V) R T init (i.first + variable) fresh (emitted k i init fresh) (some_declared s.structs (type_of init) (every_type (IsDeclared s.structs) s.variables declared variable (type_of init) h.1))
       (λ r. (stands r).own_type variable (type_of init) h.1) (emits init h.0 fresh)
 
   return_laid : (T : List ℕ → Type 0) (value : Option Expr) → ((names : List ℕ) → T names → IsTrue (is_named names i.exit)) → IsReturn s value → (fresh : Fresh) → IsLaid (scope_over s V) R T fresh (lay_return k i value fresh)

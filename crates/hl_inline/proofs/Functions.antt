@@ -1,17 +1,16 @@
 -- A function that is called and the function in place do the same.
 use Rattle.std.proofs.Common.{◌≡◌, ◌∙◌, refl, sym, ap, subst, ℕ, zero, suc, ◌+◌, ◌<◌, ◌⊎◌, inl, inr, Bool, true, false, List, [], ◌∷◌, ◌++◌, map, length, Option, None, Some, slice_get, get_or, arith}
-use Rattle.std.specs.Prelude.{◌||◌, drop, IsTrue, option_map, replicate, slice_index_or, take}
+use Rattle.std.specs.Prelude.{◌||◌, drop, IsTrue, replicate, slice_index_or, take}
 use Rattle.std.proofs.lemmas.List.{append_assoc, append-nil}
 use Rattle.std.proofs.lemmas.Bool.{true≢false}
 use Rattle.std.proofs.lemmas.Option.{none-some, same_Some, unwrap_or-slice_get}
 use Rattle.std.proofs.Math.Seq.{take-append_seam}
 use Rattle.lane_core.specs.Lane.{Exchange, Lane}
-use Rattle.hl_meaning.specs.declared.program.Parameter.{Parameter}
 use Rattle.hl_meaning.specs.Types.{Ty, array_type, is_void, scalar_type, struct_type, vector_type, void_type}
 use Rattle.hl_meaning.specs.Trees.{Expr}
 use Rattle.hl_meaning.specs.Places.{variable_type}
 use Rattle.hl_meaning.specs.Programs.{FunctionDef, Program, Variable}
-use Rattle.hl_meaning.specs.WellFormed.{IsDeclared, IsExpr, IsFunction, IsWellFormed, callee_params, one_returns, param_of}
+use Rattle.hl_meaning.specs.WellFormed.{IsDeclared, IsExpr, IsFunction, IsWellFormed, callee_params, one_returns}
 use Rattle.hl_meaning.proofs.LayoutForms.{get-next}
 use Rattle.hl_source.specs.State.{Callee, Progress, State, after, ends_at, goes_with, variable_words}
 use Rattle.hl_source.specs.Memory.{zeros_of}
@@ -23,16 +22,15 @@ use Rattle.hl_inline.specs.FlatViews.{flat_stmts_of}
 use Rattle.hl_inline.specs.FlatLane.{FlatLeaving, flat_context, flat_end, flat_to, named_end}
 use Rattle.hl_inline.specs.Early.{declared_in, early_variables, parameter_numbers}
 use Rattle.hl_inline.specs.Flattening.{Fresh, Inlined, Instance, inlined, inlined_after, inlined_at, lay_all, next_of, outside_loops, zeros_first}
-use Rattle.hl_inline.proofs.Induction.{Every, every_map}
+use Rattle.hl_inline.proofs.Induction.{every_map, every_from_all}
 use Rattle.hl_inline.proofs.Relation.{IsOutside, Keeps, Related, Stands, count_by_sizes, flat_of_context}
 use Rattle.hl_inline.proofs.FittingWords.{Fits}
 use Rattle.hl_inline.proofs.Performing.{Runs, Yields, perform, perform_next, perform_one, runs_map}
-use Rattle.hl_inline.proofs.Emission.{HasValue, front_length, front_trans, variable_size}
+use Rattle.hl_inline.proofs.Emission.{HasValue, variable_size}
 use Rattle.hl_inline.proofs.Passing.{zeros_are}
 use Rattle.hl_inline.proofs.Calls.{BeginsAs, EndsAs, InstanceIn, Inlines, body_code}
 use Rattle.hl_inline.proofs.Growth.{BodyGrows, grows_refl, inlined_grows}
-use Rattle.hl_inline.proofs.Typed.{IsSome, ParamsSome, never, some_declared}
-use Rattle.hl_inline.proofs.KindParts.{every_from_all}
+use Rattle.hl_inline.proofs.Typed.{IsSome, ParamsSome, never, some_declared, params_some}
 use Rattle.hl_inline.proofs.IntrinsicFits.{nothing_fits}
 use Rattle.hl_inline.proofs.Sound.{CalleesFit, place_value, sound}
 use Rattle.hl_inline.proofs.Expressions.{CalleeIn}
@@ -40,27 +38,15 @@ use Rattle.hl_inline.proofs.Leaving.{LeavesAs, all_leaves}
 use Rattle.hl_inline.proofs.EarlyLemmas.{In, InOr, all_known_more, early_behind, function_covered, in_append_cases, in_front, in_range, known_at_start, range_bounds}
 use Rattle.hl_inline.proofs.FirstStates.{first_sizes, held_from, nothing_more, one_more, other_words, parameter_words, zeroed, zeroed_at, zeroed_exchange, zeroed_other, zeroed_runs, zeroed_sizes, zero_plus}
 use Rattle.hl_inline.proofs.Statements.{DoesAs, same_name}
-use Rattle.hl_inline.proofs.Laying.{all_laid, type_at}
+use Rattle.hl_inline.proofs.Laying.{all_laid}
+use Rattle.hl_inline.proofs.Fronts.{every_type, front_length, front_trans, type_at}
 
 -- types that a program declares
-
-every_type : (P : Ty → Type 0) (vs : List Variable) → Every (λ v. P v.ty) vs → (v : ℕ) (ty : Ty) → variable_type vs v ≡ Some ty → P ty
-every_type P [] h v ty e = absurd (none-some ty e)
-every_type P (x ∷ vs) h zero ty e = subst P (same_Some x.ty ty e) h.0
-every_type P (x ∷ vs) h (suc v) ty e = every_type P vs h.1 v ty e
 
 -- the variables of a function have types
 pub variables_some : (p : Program) (number : ℕ) (d : FunctionDef) → IsFunction p number d → (v : ℕ) (ty : Ty) → variable_type d.variables v ≡ Some ty → IsSome ty
 variables_some p number d is v ty typed =
     every_type IsSome d.variables (every_map (λ x. IsDeclared p.structs x.ty) (λ x. IsSome x.ty) (λ x h. some_declared p.structs x.ty h) d.variables (every_from_all (λ x. IsDeclared p.structs x.ty) d.variables is.variables)) v ty typed
-
-pub params_some : (variables : List Variable) (parameters : List Parameter) → ((v : ℕ) (ty : Ty) → variable_type variables v ≡ Some ty → IsSome ty) → ParamsSome (map (param_of variables) parameters)
-params_some variables [] h = tt
-params_some variables (p ∷ parameters) h = by_type (variable_type variables p.variable) refl (params_some variables parameters h)
-  where
-    by_type : (o : Option Ty) → variable_type variables p.variable ≡ o → ParamsSome (map (param_of variables) parameters) → ParamsSome (option_map (λ ty. record { ty = ty; copying = p.copying }) o ∷ map (param_of variables) parameters)
-    by_type None e rest = rest
-    by_type (Some ty) e rest = (h p.variable ty e, rest)
 
 -- what is known of an instance is of the program alone, whichever function of it has it in place
 module _ (p : Program) (lane : Lane) (a b : List Callee) (d e : FunctionDef) (V : List Variable) where

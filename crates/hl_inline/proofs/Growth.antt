@@ -8,9 +8,8 @@ use Rattle.hl_meaning.specs.Programs.{FunctionDef}
 use Rattle.hl_inline.specs.Operands.{args_exprs, operand_exprs, place_exprs}
 use Rattle.hl_inline.specs.Flattening.{Argument, Emitter, Fresh, Inlined, Instance, Jumps, Valued, any_calls, call, emit_all, emitted, emitter, inlined, inlined_at, instance_of, is_call, jumps_of, lay, lay_all, lay_if, lay_local, lay_return, lay_run, lay_run_if, lay_test_if, next_of, outside_loops, pass_all, place_argument, result_variables, run_of, saved, settled, token_of, unnamed, value_argument, with_instance, with_jumps}
 use Rattle.hl_inline.proofs.Induction.{Every, Step, by_operands, every_back, every_front}
-use Rattle.hl_inline.proofs.OperandLemmas.{form_emitter_all, is_call_form}
-use Rattle.hl_inline.proofs.Emission.{IsFront, front_more, front_refl, front_trans}
-use Rattle.hl_inline.proofs.Passing.{args_by, args_emitters_all}
+use Rattle.hl_inline.proofs.OperandLemmas.{form_emitter_all, is_call_form, args_by, args_emitters_all}
+use Rattle.hl_inline.proofs.Fronts.{IsFront, front_more, front_refl, front_trans}
 
 pub record Grows (fresh after : Fresh) : Type 0 where
   pub front : IsFront fresh.variables after.variables

@@ -18,9 +18,10 @@ use Rattle.hl_inline.specs.FlatTrees.{Flat}
 use Rattle.hl_inline.specs.FlatLane.{flat_lane}
 use Rattle.hl_inline.specs.Flattening.{flattened}
 use Rattle.hl_inline.specs.IndexedVariables.{flat_indexed_lengths, indexed_lengths}
-use Rattle.hl_inline.specs.Keeps.{FlattenedKeeps, Keeps, KeptIsSameLane}
+use Rattle.hl_inline.specs.Keeps.{FlattenedIsFlat, FlattenedKeeps, Keeps, KeptIsSameLane}
 use Rattle.hl_inline.proofs.Whole.{keeps_meaning}
 use Rattle.hl_inline.proofs.TouchedPrograms.{keeps_lengths}
+use Rattle.hl_inline.proofs.FlatProgram.{flattened_is_flat}
 use mathlib.Core.Sum.{⊎_set}
 
 event_set : IsSet Event
@@ -53,3 +54,7 @@ kept_same_lane p f kept = record {
   events_back = λ lane replies n run is. (n, run, sym (kept.runs n lane replies) ∙ is, ([], append-nil run.events));
   never_wrong = λ n lane replies is. never_wrong p n lane replies (sym (kept.runs n lane replies) ∙ is);
 }
+
+-- it is well formed too
+pub flattened_flat : FlattenedIsFlat
+flattened_flat p well few = ∥∥₁_map well (λ w. flattened_is_flat p w few)

@@ -10,7 +10,7 @@ use Rattle.hl_meaning.specs.Types.{Ty, array_type, scalar_type, struct_type, vec
 use Rattle.hl_meaning.specs.Programs.{Member, StructDef}
 use Rattle.hl_meaning.specs.Layout.{kinds_in, kinds_of, member_kinds, member_offset, repeated, struct_kinds_after, struct_words, words_in, words_of}
 use Rattle.hl_meaning.specs.WellFormed.{IsDeclared, IsStruct, IsType}
-use Rattle.hl_inline.proofs.Induction.{Every, every_map}
+use Rattle.hl_inline.proofs.Induction.{Every, every_map, every_from_all}
 use Rattle.hl_meaning.proofs.LayoutForms.{IsBelow, below-more, get-next, kinds-front, length-kinds_of, struct_kinds-front}
 
 pub kinds-void : (structs : List StructDef) → kinds_of structs void_type ≡ []
@@ -129,10 +129,6 @@ struct_kinds_at before (e ∷ structs) (suc number) d there =
       many = r.many ∙ longer;
       there = ap (λ n. slice_get (struct_kinds_after (before ++ member_kinds before e.members ∷ []) structs) n) (sym longer) ∙ r.there;
     }
-
-pub every_from_all : {A : Type 0} (P : A → Type 0) (xs : List A) → All P xs → Every P xs
-every_from_all P [] all = tt
-every_from_all P (x ∷ xs) all = (all 0 x (omega arith), every_from_all P xs (λ k d low. all (suc k) d (omega (arith, low))))
 
 members_known : (known more : List (List Kind)) (members : List Member) → Every (λ m. IsBelow (length known) m.ty) members → member_kinds (known ++ more) members ≡ member_kinds known members
 members_known known more [] below = refl

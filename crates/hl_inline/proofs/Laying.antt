@@ -1,5 +1,5 @@
 -- What becomes of each statement of a function does what the statement does.
-use Rattle.std.proofs.Common.{◌≡◌, ◌∙◌, refl, sym, ap, subst, ℕ, zero, suc, ◌+◌, ◌<◌, ◌≤◌, ◌⊎◌, inl, inr, Bool, true, false, List, [], ◌∷◌, ◌++◌, map, length, Option, None, Some, slice_get, arith}
+use Rattle.std.proofs.Common.{◌≡◌, ◌∙◌, refl, sym, ap, subst, ℕ, suc, ◌+◌, ◌<◌, ◌≤◌, ◌⊎◌, inl, inr, Bool, true, false, List, [], ◌∷◌, ◌++◌, map, length, Option, None, Some, slice_get, arith}
 use Rattle.std.specs.Prelude.{if◌then◌else◌, IsTrue, not, slice_index}
 use Rattle.std.proofs.lemmas.List.{append_assoc, length-map}
 use Rattle.std.proofs.lemmas.Bool.{true≢false}
@@ -21,12 +21,12 @@ use Rattle.hl_inline.specs.IndexedVariables.{expr_option_mentions}
 use Rattle.hl_inline.specs.Early.{declared_by, declared_in}
 use Rattle.hl_inline.specs.Flattening.{Fresh, Inlined, Instance, Jumps, Laid, as_alternative, as_one, block_of, call, choice_of, emitted, emitter, inlined_at, is_call, jumps_of, laid, laid_then, lay, lay_all, lay_body, lay_if, lay_local, lay_loop, lay_return, lay_run, lay_run_if, lay_test, lay_test_if, next_of, run_of, set_to, with_jumps}
 use Rattle.hl_inline.proofs.ProgressLemmas.{after_assoc, after_cong}
-use Rattle.hl_inline.proofs.OperandLemmas.{is_call_form}
+use Rattle.hl_inline.proofs.OperandLemmas.{is_call_form, args_by, args_emitters_all}
 use Rattle.hl_inline.proofs.Relation.{IsOutside, Keeps, Related, Stands, count_by_sizes, flat_of_context, outside_set, related_set, sizes_at, sizes_in, words_set_other, words_set_same}
 use Rattle.hl_inline.proofs.FittingWords.{Fits, fits_length}
 use Rattle.hl_inline.proofs.Performing.{Runs, perform, perform_one}
-use Rattle.hl_inline.proofs.Emission.{Emits, HasRoom, HasValue, IsFront, Later, front_length, front_trans, related_set_other, type_there, variable_size}
-use Rattle.hl_inline.proofs.Passing.{HasPlaceValue, args_by, args_emitters_all}
+use Rattle.hl_inline.proofs.Emission.{Emits, HasRoom, HasValue, Later, related_set_other, variable_size}
+use Rattle.hl_inline.proofs.Passing.{HasPlaceValue}
 use Rattle.hl_inline.proofs.Calls.{CallReady, call_called}
 use Rattle.hl_inline.proofs.Growth.{BodyGrows, Grows, grows_trans, loop_grows, maybe_grows, run_if_grows, stmt_grows, stmts_grow, test_if_grows, value_grows}
 use Rattle.hl_inline.proofs.ValueFits.{yields_any}
@@ -35,6 +35,7 @@ use Rattle.hl_inline.proofs.Covered.{Covers, CoversExpr}
 use Rattle.hl_inline.proofs.Expressions.{CalleeIn, call_ready, emits, emits_plain, operands_emitted}
 use Rattle.hl_inline.proofs.EarlyLemmas.{CoveredAll, CoveredIf, CoveredStmt, In, InOr, all_known_more, in_cases, known_more}
 use Rattle.hl_inline.proofs.Statements.{DoesAs, TurnAs, body_turn, does_map, does_next, opens_does, performs_alternative, performs_as_one, turns_alike}
+use Rattle.hl_inline.proofs.Fronts.{IsFront, front_length, front_trans, type_at, type_there}
 
 -- another set of variables in the relation: one that holds less
 pub related_less : (c : Context) (V : List Variable) (first : ℕ) (D E : ℕ → Type 0) (s t : State) → ((v : ℕ) → E v → D v) → Related c V first D s t → Related c V first E s t
@@ -51,12 +52,6 @@ zeros_alike [] [] e = refl
 zeros_alike [] (y ∷ ys) e = absurd (omega (arith, e))
 zeros_alike (x ∷ xs) [] e = absurd (omega (arith, e))
 zeros_alike (x ∷ xs) (y ∷ ys) e = ap (λ l. 0 ∷ l) (zeros_alike xs ys (omega (arith, e)))
-
--- a variable that is there has a type
-pub type_at : (V : List Variable) (v : ℕ) → v < length V → (ty : Ty) × (variable_type V v ≡ Some ty)
-type_at [] v low = absurd (omega (arith, low))
-type_at (x ∷ V) zero low = (x.ty, refl)
-type_at (x ∷ V) (suc v) low = type_at V v (omega (arith, low))
 
 -- a variable of the function has the words of its type
 source_size : (c : Context) (s : State) (v : ℕ) (ty : Ty) → sizes_at s ≡ sizes_in c c.scope.variables → variable_type c.scope.variables v ≡ Some ty → length (variable_words s v) ≡ words_of c.scope.structs ty

@@ -23,14 +23,14 @@ use Rattle.hl_inline.specs.Operands.{filled_place, place_exprs}
 use Rattle.hl_inline.specs.Flattening.{Emitter, Fresh, Instance, Passed, Valued, Values, copy_back, emit_all, next_of, pass_all, reading, start_value}
 use Rattle.hl_inline.proofs.Induction.{Every}
 use Rattle.hl_inline.proofs.ProgressLemmas.{after_assoc, after_cong, after_giving, giving}
-use Rattle.hl_inline.proofs.OperandLemmas.{evaluate_all, indexes_all}
-pub use Rattle.hl_inline.proofs.OperandLemmas.{args_by, args_emitters_all}
+use Rattle.hl_inline.proofs.OperandLemmas.{evaluate_all, indexes_all, args_by}
 use Rattle.hl_inline.proofs.FilledLemmas.{filled_operands}
 use Rattle.hl_inline.proofs.Relation.{Alike, IsOutside, Keeps, KeepsAll, Related, Stands, count_by_sizes, flat_of_context, keeps_all_trans, words_set_other, words_set_same}
 use Rattle.hl_inline.proofs.Reading.{Acting, IsChangedPlace, PlaceIn, acting_follows, alike_read_place, alike_then, alike_write_place}
 use Rattle.hl_inline.proofs.FittingWords.{fits_length, reading_words}
 use Rattle.hl_inline.proofs.Performing.{Opens, Runs, Yields, alike_map, perform, runs_map, runs_then}
-use Rattle.hl_inline.proofs.Emission.{Emits, HasValue, IsFront, KeepsFrom, Later, Stays, all_close, all_grow, all_names, all_typed, front_length, front_refl, front_trans, keeps_from_more, keeps_refl, related_set_other, storing, type_there, variable_size}
+use Rattle.hl_inline.proofs.Emission.{Emits, HasValue, KeepsFrom, Later, Stays, all_close, all_grow, all_names, all_typed, keeps_from_more, keeps_refl, related_set_other, storing, variable_size}
+use Rattle.hl_inline.proofs.Fronts.{IsFront, front_length, front_refl, front_trans, type_there}
 
 -- the variables from a number on hold the words of as many parameters
 abbrev pub HeldAs : State → (number : ℕ) → List Parameter → List (List ℕ) → Type 0

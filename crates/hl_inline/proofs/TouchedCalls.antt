@@ -21,7 +21,7 @@ use Rattle.hl_inline.specs.Operands.{filled_place, place_exprs}
 use Rattle.hl_inline.specs.Flattening.{Argument, Emitter, Fresh, Inlined, Instance, Laid, Passed, Valued, Values, around_body, call, copy_back, emit_all, instance_of, next_of, pass_all, passed_with, reading, result_variables, start_value, with_instance}
 use Rattle.hl_inline.proofs.Induction.{Every}
 use Rattle.hl_inline.proofs.FilledLemmas.{place_filled}
-use Rattle.hl_inline.proofs.Passing.{args_by}
+use Rattle.hl_inline.proofs.OperandLemmas.{args_by}
 use Rattle.hl_inline.proofs.Touching.{Touches, false_unless, indexed-by, lengths-append, lengths-none, lengths-same, lengths_by, or_both, or_false, or_true, reached_lengths, reached_text, touched, touches_both, touches_none, touches_same, untouched}
 use Rattle.hl_inline.proofs.TouchedForms.{PlaceFits, own_place, place_text, place_touches, texts}
 use Rattle.hl_inline.proofs.TouchedNodes.{EmitsText, EmittedAs, ValuesAs, all_as, grown_next, text-append, text_of, touched-append, untouched_reading}

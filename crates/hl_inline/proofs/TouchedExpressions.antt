@@ -16,9 +16,8 @@ use Rattle.hl_inline.specs.IndexedVariables.{Reached, call_mention, reached_by}
 use Rattle.hl_inline.specs.Operands.{arg_exprs, args_exprs, operand_exprs, place_exprs}
 use Rattle.hl_inline.specs.Flattening.{Emitter, Inlined, Instance, call, emitter, inlined_at}
 use Rattle.hl_inline.proofs.Induction.{Every, Step, by_operands, every_back, every_front}
-use Rattle.hl_inline.proofs.OperandLemmas.{form_emitter_all, is_call_form}
+use Rattle.hl_inline.proofs.OperandLemmas.{args_by, args_emitters_all, form_emitter_all, is_call_form}
 use Rattle.hl_inline.proofs.Reading.{there_by_map}
-use Rattle.hl_inline.proofs.Passing.{args_by, args_emitters_all}
 use Rattle.hl_inline.proofs.Typed.{IsSome, IsValue, ParamsSome, form_values, place_values}
 use Rattle.hl_inline.proofs.TouchedForms.{FormFits, PicksLiterally, PlaceFits, RootFits}
 use Rattle.hl_inline.proofs.TouchedNodes.{EmitsText, node_as}

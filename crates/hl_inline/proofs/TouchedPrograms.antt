@@ -23,12 +23,9 @@ use Rattle.hl_inline.specs.FlatViews.{flat_stmts_of}
 use Rattle.hl_inline.specs.IndexedVariables.{Reached, call_mention, expr_mentions, exprs_mentions, flat_indexed_lengths, indexed_constants_from, indexed_from, indexed_lengths, indexes_constant, nothing_reached, reached, reached_after, reached_by, reached_from_entry, stmts_mentions}
 use Rattle.hl_inline.specs.Early.{early_variables}
 use Rattle.hl_inline.specs.Flattening.{Fresh, Inlined, Instance, Laid, constant_value, entry_body, entry_fresh, entry_instance, entry_of, flat_around, flattened, inlined, inlined_after, inlined_at, lay_all, literals, next_of, nothing_inlined, outside_loops, set_constants, set_inputs, zeros_first}
-use Rattle.hl_inline.specs.KeepsLengths.{KeepsLengths}
-use Rattle.hl_inline.proofs.Induction.{Every, every_map}
 use Rattle.hl_inline.proofs.Reading.{there_by_map}
-use Rattle.hl_inline.proofs.KindParts.{every_from_all}
-use Rattle.hl_inline.proofs.Functions.{params_some, variables_some}
-use Rattle.hl_inline.proofs.Typed.{ParamsSome}
+use Rattle.hl_inline.proofs.Functions.{variables_some}
+use Rattle.hl_inline.proofs.Typed.{ParamsSome, params_some}
 use Rattle.hl_inline.proofs.Touching.{Touches, indexed-by, lengths-append, lengths-same, lengths_by, reached_lengths, reached_text, touched}
 use Rattle.hl_inline.proofs.TouchedNodes.{text-append, text_of, touched-append}
 use Rattle.hl_inline.proofs.TouchedCalls.{BodyAs, CalleeAs}
@@ -209,7 +206,8 @@ module _ (p : Program) (well : IsWellFormed p) (r : Reached) (g : Inlined) (call
       (IsPermutation-append _ _ _ _ (IsPermutation-refl (indexed_constants_from p.structs r.text 0 p.constants))
           (IsPermutation-append _ _ _ _ (IsPermutation-refl (indexed_from p.structs callee.text 0 g.variables)) there.touches.lengths)))
 
-pub keeps_lengths : KeepsLengths
+-- they have the same lengths, up to order
+pub keeps_lengths : (p : Program) → IsWellFormed p → IsPermutation (flat_indexed_lengths (flattened p)) (indexed_lengths p)
 unfolding flattened indexed_lengths flat_indexed_lengths
 keeps_lengths p well = by_entry (slice_get p.functions p.entry) refl well.entry
   where

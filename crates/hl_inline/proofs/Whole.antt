@@ -19,17 +19,15 @@ use Rattle.hl_inline.specs.FlatTrees.{Flat, FlatStmt}
 use Rattle.hl_inline.specs.FlatLane.{FlatLeaving, flat_context, flat_end, flat_ended, flat_first_state, flat_lane}
 use Rattle.hl_inline.specs.Flattening.{Fresh, Inlined, Instance, entry_body, entry_fresh, entry_instance, flat_around, flattened, inlined_after, inlined_at, set_constants, set_inputs}
 use Rattle.hl_inline.specs.Flattening as flat
-use Rattle.hl_inline.specs.KeepsMeaning.{KeepsMeaning}
-use Rattle.hl_inline.proofs.Induction.{Every}
+use Rattle.hl_inline.proofs.Induction.{Every, every_from_all}
 use Rattle.hl_inline.proofs.Relation.{sizes_at, sizes_in}
 use Rattle.hl_inline.proofs.Performing.{Runs, perform, perform_next}
-use Rattle.hl_inline.proofs.Emission.{IsFront, front_refl}
 use Rattle.hl_inline.proofs.Passing.{HeldAs}
-use Rattle.hl_inline.proofs.Calls.{BeginsAs, EndsAs, InstanceIn, body_code, type_behind, type_front}
-use Rattle.hl_inline.proofs.KindParts.{every_from_all}
+use Rattle.hl_inline.proofs.Calls.{BeginsAs, EndsAs, InstanceIn, body_code}
 use Rattle.hl_inline.proofs.FirstStates.{held_from, nothing_more, zero_plus, zeros_sizes}
 use Rattle.hl_inline.proofs.Beginnings.{AreWords, constants_are, constants_get, constants_run, constants_words, inputs_are, inputs_run, inputs_words, written, written_at, written_below, written_exchange, written_sizes}
 use Rattle.hl_inline.proofs.Functions.{FunctionAs, functions_as, functions_at}
+use Rattle.hl_inline.proofs.Fronts.{IsFront, front_refl, type_behind, type_front}
 
 -- the type of a constant's variable
 constant_variable : (constants : List Constant) (k : ℕ) (ty : Ty) → option_map (λ d. d.variable.ty) (slice_get constants k) ≡ Some ty → variable_type (map (λ c. c.variable) constants) k ≡ Some ty
@@ -178,7 +176,7 @@ module _ (p : Program) (well : IsWellFormed p) (lane : Lane) (n : ℕ) (replies 
       ended (entry_of p lane n (inputs_words p lane d.variables d.parameters) (first_exchange replies))
   entry_same = ap flat_ended whole ∙ same_run (entry_of p lane n (inputs_words p lane d.variables d.parameters) (first_exchange replies)) (perform made lane n body with_inputs) runs
 
-pub keeps_meaning : KeepsMeaning
+pub keeps_meaning : (p : Program) → IsWellFormed p → (n : ℕ) (lane : Lane) (replies : List Reply) → flat_lane (flattened p) n lane replies ≡ source_lane p n lane replies
 unfolding flattened flat_lane source_lane
 keeps_meaning p well n lane replies = by_entry (slice_get p.functions p.entry) refl well.entry
   where

@@ -1,13 +1,15 @@
 -- What a program without calls keeps of the program that it was made of.
-use Rattle.std.specs.Prelude.{◌≡◌, ℕ, List}
+use Rattle.std.specs.Prelude.{◌≡◌, ◌≤◌, ℕ, List}
 use Rattle.std.specs.List.Sorted.{IsPermutation}
 use Rattle.lane_core.specs.declared.event.Reply.{Reply}
 use Rattle.lane_core.specs.Lane.{Lane}
 use Rattle.lane_core.specs.SameLane.{SameLane}
 use Rattle.hl_meaning.specs.Programs.{Program}
+use Rattle.hl_meaning.specs.Sums.{variable_words}
 use Rattle.hl_meaning.specs.WellFormed.{IsWellFormed}
 use Rattle.hl_source.specs.SourceLane.{source_lane}
 use Rattle.hl_inline.specs.FlatTrees.{Flat}
+use Rattle.hl_inline.specs.FlatWellFormed.{IsFlat, most_shared_words}
 use Rattle.hl_inline.specs.FlatLane.{flat_lane}
 use Rattle.hl_inline.specs.IndexedVariables.{flat_indexed_lengths, indexed_lengths}
 use Rattle.hl_inline.specs.Flattening.{flattened}
@@ -30,3 +32,7 @@ FlattenedKeeps = (p : Program) → ∥ IsWellFormed p ∥₁ → Keeps p (flatte
 -- then both have the same lanes
 abbrev pub KeptIsSameLane : Type 0
 KeptIsSameLane = (p : Program) (f : Flat) → Keeps p f → SameLane (source_lane p) (flat_lane f)
+
+-- It is well formed, as the program is, where its groupshared variables have few enough words. A program may have more.
+abbrev pub FlattenedIsFlat : Type 0
+FlattenedIsFlat = (p : Program) → ∥ IsWellFormed p ∥₁ → variable_words p.structs p.shared ≤ most_shared_words → ∥ IsFlat (flattened p) ∥₁

@@ -6,7 +6,4 @@ pub mod IndexedVariables
 pub mod Operands
 pub mod Early
 pub mod Flattening
-pub mod KeepsMeaning
-pub mod KeepsLengths
-pub mod FlattenedIsFlat
 pub mod Keeps

@@ -2,7 +2,7 @@
 use Rattle.std.specs.Prelude.{◌≡◌, ℕ, List, [], ◌∷◌, None, Some, refl}
 use Rattle.hl_meaning.specs.declared.program.Copying.TheVariants.{CopyBoth, CopyIn}
 use Rattle.hl_meaning.specs.Types.{array_type, uint_type, void_type}
-use Rattle.hl_meaning.specs.Trees.{Expr, PathParts, Stmt, a_location, binary_form, call_form, constant_root, index_part, literal_form, more_args, more_parts, no_args, no_parts, place_arg, return_stmt, run_stmt, value_arg, variable_root}
+use Rattle.hl_meaning.specs.Trees.{Expr, PathParts, a_location, binary_form, call_form, constant_root, index_part, more_args, more_parts, no_args, no_parts, place_arg, return_stmt, run_stmt, value_arg, variable_root}
 use Rattle.hl_meaning.specs.Programs.{FunctionDef, Program}
 use Rattle.hl_meaning.specs.Layout.{kinds_of, words_of}
 use Rattle.hl_source.proofs.SmallPrograms.{expr, function, place_read, program_with, set_place, uint_word, uints, variable, variable_read}

@@ -1,24 +1,16 @@
 -- What is kept, of a program whose well-formedness is a mere fact.
-use Rattle.std.proofs.Common.{◌≡◌, ◌≢◌, ◌∙◌, refl, sym, ap, subst, ℕ, List, [], ◌++◌, Option, None, Some}
+use Rattle.std.proofs.Common.{◌∙◌, refl, sym, [], Option}
 use Rattle.std.proofs.Math.Logic.{∥∥₁_elim, ∥∥₁_map}
 use Rattle.std.proofs.Props.{props}
 use Rattle.std.proofs.lemmas.List.{append-nil}
-use Rattle.std.specs.List.Sorted.{IsPermutation}
 use Rattle.lane_core.specs.declared.event.Event.{Event}
-use Rattle.lane_core.specs.declared.event.Reply.{Reply}
 use Rattle.lane_core.specs.declared.event.Asked.{Asked}
-use Rattle.lane_core.specs.declared.event.Asked.TheVariants.{Goes}
-use Rattle.lane_core.specs.Lane.{Lane, Run}
-use Rattle.lane_core.specs.SameLane.{SameLane}
-use Rattle.hl_meaning.specs.Programs.{Program}
-use Rattle.hl_meaning.specs.WellFormed.{IsWellFormed}
+use Rattle.lane_core.specs.Lane.{Run}
 use Rattle.hl_source.specs.SourceLane.{source_lane}
 use Rattle.hl_source.proofs.Runs.{never_wrong}
-use Rattle.hl_inline.specs.FlatTrees.{Flat}
 use Rattle.hl_inline.specs.FlatLane.{flat_lane}
 use Rattle.hl_inline.specs.Flattening.{flattened}
-use Rattle.hl_inline.specs.IndexedVariables.{flat_indexed_lengths, indexed_lengths}
-use Rattle.hl_inline.specs.Keeps.{FlattenedIsFlat, FlattenedKeeps, Keeps, KeptIsSameLane}
+use Rattle.hl_inline.specs.Keeps.{FlattenedIsFlat, FlattenedKeeps, KeptIsSameLane}
 use Rattle.hl_inline.proofs.Whole.{keeps_meaning}
 use Rattle.hl_inline.proofs.TouchedPrograms.{keeps_lengths}
 use Rattle.hl_inline.proofs.FlatProgram.{flattened_is_flat}

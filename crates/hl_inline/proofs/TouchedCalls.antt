@@ -1,5 +1,5 @@
 -- What calls index, and what becomes of them.
-use Rattle.std.proofs.Common.{◌≡◌, ◌≢◌, ◌∙◌, refl, sym, ap, subst, ℕ, zero, suc, ◌+◌, ◌<◌, ◌≤◌, ◌⊎◌, inl, inr, Bool, true, false, List, [], ◌∷◌, ◌++◌, None, Some, length, length-append, map, append_assoc, arith}
+use Rattle.std.proofs.Common.{◌≡◌, ◌∙◌, refl, sym, ap, subst, ℕ, suc, ◌+◌, ◌<◌, ◌≤◌, ◌⊎◌, inl, inr, Bool, true, false, List, [], ◌∷◌, ◌++◌, Some, length, length-append, map, append_assoc, arith}
 use Rattle.std.specs.Prelude.{◌||◌}
 use Rattle.std.specs.List.{list_any}
 use Rattle.std.specs.List.Sorted.{IsPermutation}
@@ -12,17 +12,17 @@ use Rattle.hl_meaning.specs.declared.program.Copying.{Copying}
 use Rattle.hl_meaning.specs.declared.program.Copying.TheVariants.{CopyBoth, CopyIn, CopyOut}
 use Rattle.hl_meaning.specs.declared.program.Parameter.{Parameter}
 use Rattle.hl_meaning.specs.Types.{Ty}
-use Rattle.hl_meaning.specs.Trees.{Arg, Args, Expr, Location, a_location, an_expr, call_form, more_args, no_args, place_arg, place_type, value_arg}
+use Rattle.hl_meaning.specs.Trees.{Arg, Args, Expr, Location, an_expr, call_form, more_args, no_args, place_arg, place_type, value_arg}
 use Rattle.hl_meaning.specs.Programs.{StructDef, Variable}
 use Rattle.hl_inline.specs.FlatTrees.{FlatStmt, flat_block, flat_local, flat_named}
 use Rattle.hl_inline.specs.FlatViews.{flat_stmts_of}
 use Rattle.hl_inline.specs.IndexedVariables.{Mention, Reached, args_mentions, call_mention, expr_mentions, indexed_from, indexes_constant, indexes_variable, location_mentions, reached_by}
 use Rattle.hl_inline.specs.Operands.{filled_place, place_exprs}
-use Rattle.hl_inline.specs.Flattening.{Argument, Emitter, Fresh, Inlined, Instance, Laid, Passed, Valued, Values, around_body, call, copy_back, emit_all, instance_of, next_of, pass_all, passed_with, reading, result_variables, start_value, with_instance}
+use Rattle.hl_inline.specs.Flattening.{Emitter, Fresh, Inlined, Instance, Laid, Passed, Valued, Values, around_body, call, copy_back, emit_all, instance_of, next_of, pass_all, passed_with, reading, result_variables, start_value, with_instance}
 use Rattle.hl_inline.proofs.Induction.{Every}
 use Rattle.hl_inline.proofs.FilledLemmas.{place_filled}
 use Rattle.hl_inline.proofs.OperandLemmas.{args_by}
-use Rattle.hl_inline.proofs.Touching.{Touches, false_unless, indexed-by, lengths-append, lengths-none, lengths-same, lengths_by, or_both, or_false, or_true, reached_lengths, reached_text, touched, touches_both, touches_none, touches_same, untouched}
+use Rattle.hl_inline.proofs.Touching.{Touches, indexed-by, lengths-append, lengths-none, lengths-same, lengths_by, or_both, or_false, or_true, reached_lengths, reached_text, touched, touches_both, touches_none, touches_same, untouched}
 use Rattle.hl_inline.proofs.TouchedForms.{PlaceFits, own_place, place_text, place_touches, texts}
 use Rattle.hl_inline.proofs.TouchedNodes.{EmitsText, EmittedAs, ValuesAs, all_as, grown_next, text-append, text_of, touched-append, untouched_reading}
 
@@ -68,7 +68,7 @@ module _ (structs : List StructDef) (before : List Reached) (constants first siz
           (or_more (touched (text_of code) n) (touched (text_of rest.code) n) (touched (text_of copies) n) (touched (text_of rest.copies) n) ∙
           sym (touched-append (text_of (code ++ rest.code)) (text_of (copies ++ rest.copies)) n ∙
           or_both _ _ _ _ (ap (λ l. touched l n) (text-append code rest.code) ∙ touched-append (text_of code) (text_of rest.code) n)
-              (ap (λ l. touched l n) (text-append copies rest.copies) ∙ touched-append (text_of copies) (text_of rest.copies) n)))
+          (ap (λ l. touched l n) (text-append copies rest.copies) ∙ touched-append (text_of copies) (text_of rest.copies) n)))
 
   -- a value
   value_touches : (e : Expr) (number : ℕ) (fresh : Fresh) (x : Valued) (emitted : EmittedAs structs before constants first size e fresh x) →
@@ -76,7 +76,7 @@ module _ (structs : List StructDef) (before : List Reached) (constants first siz
   value_touches e number fresh x emitted =
       touches_same structs before constants first size (next_of fresh) (expr_mentions e) _ _ emitted.new
       (λ n. sym (ap (λ l. touched l n) (append-nil (text_of (x.code ++ flat_local number (Some x.value) ∷ [])) ∙
-          (text-append x.code (flat_local number (Some x.value) ∷ []) ∙ ap (λ l. text_of x.code ++ l) (append-nil (expr_mentions x.value))))))
+      (text-append x.code (flat_local number (Some x.value) ∷ []) ∙ ap (λ l. text_of x.code ++ l) (append-nil (expr_mentions x.value))))))
       emitted.touches
 
   -- a place that is written behind the call, and may be read before it
@@ -111,7 +111,7 @@ module _ (structs : List StructDef) (before : List Reached) (constants first siz
       touched (location_mentions (to_place place x)) n ≡ (touched (own_place (to_place place x)) n || touched (texts x.values) n)
   place_part place x count n =
       ap (λ l. touched l n) (place_text (to_place place x) ∙ ap (λ es. own_place (to_place place x) ++ texts es)
-          (ap (λ l. place_exprs (filled_place first place l)) (sym (append-nil x.values)) ∙ place_filled first place x.values [] count)) ∙
+      (ap (λ l. place_exprs (filled_place first place l)) (sym (append-nil x.values)) ∙ place_filled first place x.values [] count)) ∙
       touched-append (own_place (to_place place x)) (texts x.values) n
 
   place_passed_touches : (at number : ℕ) (copying : Copying) (place : Location) (fresh : Fresh) (x : Values) → first + size ≤ next_of fresh → PlaceFits size constants place →
@@ -122,21 +122,25 @@ module _ (structs : List StructDef) (before : List Reached) (constants first siz
       touches_same structs before constants first size (next_of fresh) (location_mentions place) _ _ values.new (same copying)
       (subst (λ l. Touches structs before constants first size (next_of fresh) l (λ n. touched (own_place (to_place place x)) n || touched (text_of x.code ++ texts x.values) n) values.new) (sym (place_text place))
       (touches_both structs before constants first size high (next_of fresh) (next_of fresh) room (own_place place) (texts (place_exprs place)) _ _ [] values.new (omega arith)
-          (place_touches structs before constants first size (next_of fresh) high room place x.values fits values.literals) values.touches))
+      (place_touches structs before constants first size (next_of fresh) high room place x.values fits values.literals) values.touches))
     where
       own : ℕ → Bool
       own n = touched (own_place (to_place place x)) n
+
       parts : (n : ℕ) → (own n || touched (text_of x.code ++ texts x.values) n) ≡ (own n || (touched (text_of x.code) n || touched (texts x.values) n))
       parts n = ap (λ b. own n || b) (touched-append (text_of x.code) (texts x.values) n)
+
       whole : (copying : Copying) (n : ℕ) → touched (text_of (place_code number copying at place x) ++ text_of (copy_back (to_place place x) at number ∷ [])) n ≡
           ((touched (text_of x.code) n || touched (text_of (flat_local number (start_value copying (to_place place x) at) ∷ [])) n) || ((own n || touched (texts x.values) n) || false))
       whole copying n =
           touched-append (text_of (place_code number copying at place x)) (text_of (copy_back (to_place place x) at number ∷ [])) n ∙
           or_both _ _ _ _ (ap (λ l. touched l n) (text-append x.code (flat_local number (start_value copying (to_place place x) at) ∷ [])) ∙
-              touched-append (text_of x.code) (text_of (flat_local number (start_value copying (to_place place x) at) ∷ [])) n)
+          touched-append (text_of x.code) (text_of (flat_local number (start_value copying (to_place place x) at) ∷ [])) n)
           (copied_text at number (to_place place x) n ∙ ap (λ b. b || false) (place_part place x values.count n))
+
       started : (n : ℕ) → touched (location_mentions (to_place place x) ++ []) n ≡ (own n || touched (texts x.values) n)
       started n = ap (λ l. touched l n) (append-nil (location_mentions (to_place place x))) ∙ place_part place x values.count n
+
       same : (copying : Copying) (n : ℕ) → (own n || touched (text_of x.code ++ texts x.values) n) ≡
           touched (text_of (place_code number copying at place x) ++ text_of (copy_back (to_place place x) at number ∷ [])) n
       same CopyOut n = parts n ∙ (or_place (touched (text_of x.code) n) (own n) (touched (texts x.values) n) ∙ sym (whole CopyOut n))
@@ -170,11 +174,12 @@ module _ (structs : List StructDef) (before : List Reached) (constants first siz
     where
       x : Valued
       x = (em value).emit fresh
+
       emitted : EmittedAs structs before constants first size value fresh x
       emitted = ready.0 fresh room
   passed_as i is at number (more_args (place_arg place) rest) (p ∷ parameters) ready fresh room =
       subst (λ k. PassedText structs before constants first size (location_mentions place ++ args_mentions rest) fresh (passed_with (x.code ++ flat_local number (start_value p.copying (filled_place k place x.values) at) ∷ [])
-          (copy_back (filled_place k place x.values) at number ∷ []) (pass_all i at (suc number) (args_by em rest) parameters x.fresh))) (sym is)
+      (copy_back (filled_place k place x.values) at number ∷ []) (pass_all i at (suc number) (args_by em rest) parameters x.fresh))) (sym is)
       (passed_more (location_mentions place) (args_mentions rest) fresh x.fresh (place_code number p.copying at place x) (copy_back (to_place place x) at number ∷ []) values.new
       (pass_all i at (suc number) (args_by em rest) parameters x.fresh) room values.grows
       (place_passed_touches at number p.copying place fresh x room ready.0.0 values)
@@ -182,6 +187,7 @@ module _ (structs : List StructDef) (before : List Reached) (constants first siz
     where
       x : Values
       x = emit_all true (map em (place_exprs place)) fresh
+
       values : ValuesAs structs before constants first size (place_exprs place) fresh x
       values = all_as structs before constants first size high em true (place_exprs place) ready.0.1 fresh room
 
@@ -220,25 +226,31 @@ module _ (structs : List StructDef) (before : List Reached) (constants first siz
       (x : Passed) (passed : PassedText structs before constants first size args_text (with_instance g ty at fresh) x) where
     abbrev own : Instance
     own = instance_of g fresh
+
     abbrev with_own : Fresh
     with_own = with_instance g ty at fresh
+
     there : BodyAs structs callee.before constants callee.text own (length g.variables) x.fresh (g.body own x.fresh)
     there = callee.body own x.fresh (omega (arith, high, room)) (omega (arith, grown_next with_own x.fresh passed.new passed.grows, length-append fresh.variables (g.variables ++ result_variables ty at), length-append g.variables (result_variables ty at)))
 
     own_count : next_of with_own ≡ next_of fresh + (length g.variables + length (result_variables ty at))
     own_count = length-append fresh.variables (g.variables ++ result_variables ty at) ∙ ap (λ k. next_of fresh + k) (length-append g.variables (result_variables ty at))
+
     passed_count : next_of x.fresh ≡ next_of with_own + length passed.new
     passed_count = grown_next with_own x.fresh passed.new passed.grows
 
     abbrev by_args : ℕ → Bool
     by_args n = touched (text_of x.code ++ text_of x.copies) n
+
     abbrev by_body : ℕ → Bool
     by_body n = touched (text_of (g.body own x.fresh).code) n
+
     abbrev by_both : ℕ → Bool
     by_both n = by_args n || by_body n
 
     args_quiet : (n : ℕ) → next_of fresh ≤ n → (n < next_of with_own) ⊎ (next_of with_own + length passed.new ≤ n) → by_args n ≡ false
     args_quiet n high_n past = untouched structs before constants first size (next_of with_own) args_text by_args passed.new passed.touches n (omega (arith, high, room, high_n)) (inr (omega (arith, room, high_n))) past
+
     body_quiet : (n : ℕ) → constants ≤ n → (n < next_of fresh) ⊎ (next_of fresh + length g.variables ≤ n) → (n < next_of x.fresh) ⊎ (next_of x.fresh + length there.new ≤ n) → by_body n ≡ false
     body_quiet n high_n apart past = untouched structs callee.before constants own.first (length g.variables) (next_of x.fresh) callee.text by_body there.new there.touches n high_n apart past
 
@@ -248,15 +260,18 @@ module _ (structs : List StructDef) (before : List Reached) (constants first siz
     own_lengths : lengths_by structs by_both (next_of fresh) g.variables ≡ indexed_from structs callee.text 0 g.variables
     own_lengths =
         lengths-same structs by_both (touched callee.text) (next_of fresh) 0 g.variables (λ j low.
-            ap (λ b. b || by_body (next_of fresh + j)) (args_quiet (next_of fresh + j) (omega arith) (inl (omega (arith, low, own_count)))) ∙ (there.touches.own j low ∙ ap (touched callee.text) (omega arith))) ∙
+        ap (λ b. b || by_body (next_of fresh + j)) (args_quiet (next_of fresh + j) (omega arith) (inl (omega (arith, low, own_count)))) ∙ (there.touches.own j low ∙ ap (touched callee.text) (omega arith))) ∙
         sym (indexed-by structs callee.text 0 g.variables)
+
     result_lengths : lengths_by structs by_both (next_of fresh + length g.variables) (result_variables ty at) ≡ []
     result_lengths = lengths-none structs by_both (next_of fresh + length g.variables) (result_variables ty at) (λ j low.
         or_both _ _ _ _ (args_quiet ((next_of fresh + length g.variables) + j) (omega arith) (inl (omega (arith, low, own_count))))
         (body_quiet ((next_of fresh + length g.variables) + j) (omega (arith, high, room)) (inr (omega arith)) (inl (omega (arith, low, own_count, passed_count)))))
+
     args_lengths : lengths_by structs by_both (next_of with_own) passed.new ≡ lengths_by structs by_args (next_of with_own) passed.new
     args_lengths = lengths-same structs by_both by_args (next_of with_own) (next_of with_own) passed.new (λ j low.
         or_false _ _ (body_quiet (next_of with_own + j) (omega (arith, high, room, own_count)) (inr (omega (arith, own_count))) (inl (omega (arith, low, passed_count)))))
+
     body_lengths : lengths_by structs by_both (next_of x.fresh) there.new ≡ lengths_by structs by_body (next_of x.fresh) there.new
     body_lengths = lengths-same structs by_both by_body (next_of x.fresh) (next_of x.fresh) there.new (λ j low.
         ap (λ b. b || by_body (next_of x.fresh + j)) (args_quiet (next_of x.fresh + j) (omega (arith, own_count, passed_count)) (inr (omega (arith, passed_count)))))
@@ -266,10 +281,10 @@ module _ (structs : List StructDef) (before : List Reached) (constants first siz
     all_lengths =
         lengths-append structs by_both (next_of fresh) (g.variables ++ result_variables ty at) (passed.new ++ there.new) ∙
         or_lists _ _ _ _ (lengths-append structs by_both (next_of fresh) g.variables (result_variables ty at) ∙ (ap (λ l. l ++ lengths_by structs by_both (next_of fresh + length g.variables) (result_variables ty at)) own_lengths ∙
-                (ap (λ l. indexed_from structs callee.text 0 g.variables ++ l) result_lengths ∙ append-nil (indexed_from structs callee.text 0 g.variables))))
-            (ap (λ k. lengths_by structs by_both k (passed.new ++ there.new)) (ap (λ k. next_of fresh + k) (length-append g.variables (result_variables ty at)) ∙ sym own_count) ∙
-                (lengths-append structs by_both (next_of with_own) passed.new there.new ∙
-                or_lists _ _ _ _ args_lengths (ap (λ k. lengths_by structs by_both k there.new) (sym passed_count) ∙ body_lengths)))
+        (ap (λ l. indexed_from structs callee.text 0 g.variables ++ l) result_lengths ∙ append-nil (indexed_from structs callee.text 0 g.variables))))
+        (ap (λ k. lengths_by structs by_both k (passed.new ++ there.new)) (ap (λ k. next_of fresh + k) (length-append g.variables (result_variables ty at)) ∙ sym own_count) ∙
+        (lengths-append structs by_both (next_of with_own) passed.new there.new ∙
+        or_lists _ _ _ _ args_lengths (ap (λ k. lengths_by structs by_both k there.new) (sym passed_count) ∙ body_lengths)))
       where
         or_lists : (us vs ws xs : List ℕ) → us ≡ ws → vs ≡ xs → us ++ vs ≡ ws ++ xs
         or_lists us vs ws xs e f = ap (λ l. l ++ vs) e ∙ ap (λ l. ws ++ l) f
@@ -299,17 +314,17 @@ module _ (structs : List StructDef) (before : List Reached) (constants first siz
         subst (λ l. IsPermutation l (reached_lengths before call_text)) (sym all_lengths)
         (subst (IsPermutation (indexed_from structs callee.text 0 g.variables ++ (lengths_by structs by_args (next_of with_own) passed.new ++ lengths_by structs by_body (next_of x.fresh) there.new))) (sym call_reached_lengths)
         (IsPermutation-trans _ _ _
-            (IsPermutation-append _ _ _ _ (IsPermutation-refl (indexed_from structs callee.text 0 g.variables)) (IsPermutation-append _ _ _ _ passed.touches.lengths there.touches.lengths))
-            (to_front (indexed_from structs callee.text 0 g.variables) (reached_lengths before args_text) (reached_lengths callee.before callee.text))))
+        (IsPermutation-append _ _ _ _ (IsPermutation-refl (indexed_from structs callee.text 0 g.variables)) (IsPermutation-append _ _ _ _ passed.touches.lengths there.touches.lengths))
+        (to_front (indexed_from structs callee.text 0 g.variables) (reached_lengths before args_text) (reached_lengths callee.before callee.text))))
 
     constant_alike : (k : ℕ) → k < constants → by_both k ≡ (list_any (indexes_constant k) call_text || list_any (indexes_constant k) (reached_text before call_text))
     constant_alike k low =
         or_both _ _ _ _ (passed.touches.constant k low) (there.touches.constant k low) ∙
         (or_parts (list_any (indexes_constant k) args_text) (list_any (indexes_constant k) (reached_text before args_text)) (list_any (indexes_constant k) callee.text) (list_any (indexes_constant k) (reached_text callee.before callee.text)) ∙
         sym (or_both _ _ _ _ (no_call (indexes_constant k) refl)
-            (ap (list_any (indexes_constant k)) call_reached_text ∙
-            (list_any-append (indexes_constant k) (reached_text before args_text) (callee.text ++ reached_text callee.before callee.text) ∙
-            ap (λ b. list_any (indexes_constant k) (reached_text before args_text) || b) (list_any-append (indexes_constant k) callee.text (reached_text callee.before callee.text))))))
+        (ap (list_any (indexes_constant k)) call_reached_text ∙
+        (list_any-append (indexes_constant k) (reached_text before args_text) (callee.text ++ reached_text callee.before callee.text) ∙
+        ap (λ b. list_any (indexes_constant k) (reached_text before args_text) || b) (list_any-append (indexes_constant k) callee.text (reached_text callee.before callee.text))))))
       where
         or_parts : (a b d e : Bool) → ((a || b) || (d || e)) ≡ ((a || false) || (b || (d || e)))
         or_parts true b d e = refl
@@ -330,11 +345,13 @@ module _ (structs : List StructDef) (before : List Reached) (constants first siz
         args_within (inl low) = inl low
         args_within (inr (inl its_own)) = inr (inl its_own)
         args_within (inr (inr newer)) = inr (inr (omega (arith, newer.0, own_count), omega (arith, newer.1, own_count, new_count)))
+
         body_within : (n < constants) ⊎ (((next_of fresh ≤ n) × (n < next_of fresh + length g.variables)) ⊎ ((next_of x.fresh ≤ n) × (n < next_of x.fresh + length there.new))) →
             (n < constants) ⊎ (((first ≤ n) × (n < first + size)) ⊎ ((next_of fresh ≤ n) × (n < next_of fresh + length new)))
         body_within (inl low) = inl low
         body_within (inr (inl its_own)) = inr (inr (its_own.0, omega (arith, its_own.1, new_count)))
         body_within (inr (inr newer)) = inr (inr (omega (arith, newer.0, own_count, passed_count), omega (arith, newer.1, own_count, passed_count, new_count)))
+
         by_case : (by_args n ≡ true) ⊎ (by_body n ≡ true) → (n < constants) ⊎ (((first ≤ n) × (n < first + size)) ⊎ ((next_of fresh ≤ n) × (n < next_of fresh + length new)))
         by_case (inl is_args) = args_within (passed.touches.within n is_args)
         by_case (inr is_body) = body_within (there.touches.within n is_body)
@@ -357,7 +374,7 @@ module _ (structs : List StructDef) (before : List Reached) (constants first siz
         (or_call (touched (text_of x.code) n) (by_body n) (touched (text_of x.copies) n) ∙
         sym (touched-append (text_of whole_call.code) (expr_mentions whole_call.value) n ∙
         or_both _ _ _ _ (ap (λ l. touched l n) (text-append x.code (flat_named own.exit (flat_block (flat_stmts_of (g.body own x.fresh).code)) ∷ x.copies)) ∙
-            (touched-append (text_of x.code) (text_of (g.body own x.fresh).code ++ text_of x.copies) n ∙ ap (λ b. touched (text_of x.code) n || b) (touched-append (text_of (g.body own x.fresh).code) (text_of x.copies) n)))
+        (touched-append (text_of x.code) (text_of (g.body own x.fresh).code ++ text_of x.copies) n ∙ ap (λ b. touched (text_of x.code) n || b) (touched-append (text_of (g.body own x.fresh).code) (text_of x.copies) n)))
         (untouched_reading ty at own.result n)))
 
     pub call_around : (args : Args) → args_mentions args ≡ args_text → EmittedAs structs before constants first size (an_expr ty at (call_form function args)) fresh whole_call
@@ -377,5 +394,5 @@ module _ (structs : List StructDef) (before : List Reached) (constants first siz
   call_as i is em ty at function args g callee ready fresh room =
       call_around function g callee (args_mentions args) ty at fresh room (pass_all i at (next_of fresh) (args_by em args) g.parameters (with_instance g ty at fresh))
       (passed_as structs before constants first size high em i is at (next_of fresh) args g.parameters ready (with_instance g ty at fresh)
-          (omega (arith, room, length-append fresh.variables (g.variables ++ result_variables ty at))))
+      (omega (arith, room, length-append fresh.variables (g.variables ++ result_variables ty at))))
       args refl

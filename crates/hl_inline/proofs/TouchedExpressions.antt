@@ -1,5 +1,5 @@
 -- What becomes of each expression of a function indexes what the expression does.
-use Rattle.std.proofs.Common.{◌≡◌, ◌∙◌, refl, sym, ap, subst, ℕ, zero, suc, ◌+◌, ◌<◌, ◌≤◌, Bool, true, false, List, [], ◌∷◌, ◌++◌, map, length, Option, None, Some, slice_get, arith}
+use Rattle.std.proofs.Common.{◌≡◌, refl, sym, subst, ℕ, ◌<◌, ◌≤◌, false, List, [], ◌∷◌, map, length, Option, None, Some, slice_get}
 use Rattle.std.specs.Prelude.{option_map, option_and_then}
 use Rattle.std.proofs.lemmas.Option.{none-some}
 use Rattle.hl_meaning.specs.declared.program.Copying.{Copying}
@@ -8,17 +8,17 @@ use Rattle.hl_meaning.specs.declared.program.Parameter.{Parameter}
 use Rattle.lane_core.specs.declared.event.AtomicKind.{AtomicKind}
 use Rattle.lane_core.specs.declared.event.AtomicKind.TheVariants.{Add, And, Or, Xor, IMin, IMax, UMin, UMax, Exchange}
 use Rattle.hl_meaning.specs.Types.{Ty}
-use Rattle.hl_meaning.specs.Trees.{Arg, Args, Expr, Form, Location, MaybeLocation, PathParts, Root, Target, a_location, an_expr, atomic_form, binary_form, build_form, bytes_target, call_form, choose_form, constant_root, convert_form, element_root, intrinsic_form, literal_form, method_form, more_args, no_args, no_location, pick_form, place_arg, place_target, read_form, shared_root, some_location, type_of, unary_form, value_arg, variable_root, write_form}
+use Rattle.hl_meaning.specs.Trees.{Arg, Args, Expr, Form, Location, PathParts, Root, Target, a_location, an_expr, atomic_form, binary_form, build_form, bytes_target, call_form, choose_form, constant_root, convert_form, element_root, intrinsic_form, literal_form, method_form, more_args, no_args, no_location, pick_form, place_arg, place_target, read_form, shared_root, some_location, unary_form, value_arg, variable_root, write_form}
 use Rattle.hl_meaning.specs.Programs.{FunctionDef, Variable}
 use Rattle.hl_meaning.specs.Places.{Scope, path_type, root_type, variable_type}
-use Rattle.hl_meaning.specs.WellFormed.{ArePassed, IsExpr, IsForm, IsOriginal, IsPassed, IsPlace, IsTarget, Param, callee_params, callee_result, param_of}
+use Rattle.hl_meaning.specs.WellFormed.{ArePassed, IsExpr, IsForm, IsOriginal, IsPassed, IsPlace, callee_params, callee_result, param_of}
 use Rattle.hl_inline.specs.IndexedVariables.{Reached, call_mention, reached_by}
 use Rattle.hl_inline.specs.Operands.{arg_exprs, args_exprs, operand_exprs, place_exprs}
-use Rattle.hl_inline.specs.Flattening.{Emitter, Inlined, Instance, call, emitter, inlined_at}
+use Rattle.hl_inline.specs.Flattening.{Inlined, Instance, call, emitter, inlined_at}
 use Rattle.hl_inline.proofs.Induction.{Every, Step, by_operands, every_back, every_front}
 use Rattle.hl_inline.proofs.OperandLemmas.{args_by, args_emitters_all, form_emitter_all, is_call_form}
 use Rattle.hl_inline.proofs.Reading.{there_by_map}
-use Rattle.hl_inline.proofs.Typed.{IsSome, IsValue, ParamsSome, form_values, place_values}
+use Rattle.hl_inline.proofs.Typed.{IsValue, ParamsSome, form_values, place_values}
 use Rattle.hl_inline.proofs.TouchedForms.{FormFits, PicksLiterally, PlaceFits, RootFits}
 use Rattle.hl_inline.proofs.TouchedNodes.{EmitsText, node_as}
 use Rattle.hl_inline.proofs.TouchedCalls.{ArgsText, ArgText, CalleeAs, call_as}
@@ -117,7 +117,7 @@ module _ (s : Scope) (before : List Reached) (first : ℕ) (high : length s.cons
   plain_step ty at form plain indexing h =
       subst (EmitsText s.structs before (length s.constants) first (length s.variables) (an_expr ty at form)) (sym (form_emitter_all k i ty at form plain))
       (node_as s.structs before (length s.constants) first (length s.variables) high i is ty at form (emitter k i) plain (form_picks s ty form h.1) (form_fits s ty form h.1)
-          (indexing_all (operand_exprs form) indexing (form_values s some_params ty form h.1)))
+      (indexing_all (operand_exprs form) indexing (form_values s some_params ty form h.1)))
 
   arg_text : (ty : Ty) (copying : Copying) (arg : Arg) → IsPassed s ty copying arg → Every Indexing (arg_exprs arg) → ArgText s.structs before (length s.constants) first (length s.variables) high (emitter k i) arg
   arg_text ty CopyIn (value_arg value) h indexing = indexing.0 h.0

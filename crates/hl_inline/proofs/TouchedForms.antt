@@ -1,20 +1,18 @@
 -- The places of a form, and the same of the form over other expressions.
-use Rattle.std.proofs.Common.{◌≡◌, ◌≢◌, ◌∙◌, refl, sym, ap, subst, ℕ, zero, suc, ◌+◌, ◌<◌, ◌≤◌, ◌⊎◌, inl, inr, Bool, true, false, List, [], ◌∷◌, ◌++◌, length, append_assoc, arith}
-use Rattle.std.specs.Prelude.{◌||◌, ◌==◌, ◌&&◌, not, IsTrue, drop}
+use Rattle.std.proofs.Common.{◌≡◌, ◌∙◌, refl, sym, ap, subst, ℕ, ◌+◌, ◌<◌, ◌≤◌, ◌⊎◌, inl, inr, Bool, true, false, List, [], ◌∷◌, ◌++◌, length, append_assoc, arith}
+use Rattle.std.specs.Prelude.{◌||◌, ◌==◌, ◌&&◌, not, drop}
 use Rattle.std.specs.List.{list_any}
 use Rattle.std.proofs.lemmas.Bool.{and_parts, cases_eq, eq-eqb, eqb-true, false≢true, ne_eqb, true≢false}
 use Rattle.std.proofs.lemmas.List.{append-nil}
 use Rattle.std.proofs.lemmas.List.Folds.{list_any-append}
 use Rattle.std.proofs.lemmas.List.Sorted.{IsPermutation-refl}
-use Rattle.hl_meaning.specs.Types.{Ty}
-use Rattle.hl_meaning.specs.Trees.{Arg, Args, Expr, Exprs, Form, Location, MaybeExpr, MaybeLocation, PathPart, PathParts, Root, Target, a_location, an_expr, atomic_form, binary_form, build_form, bytes_target, call_form, choose_form, constant_root, convert_form, element_root, index_part, intrinsic_form, literal_form, member_part, method_form, more_exprs, more_parts, no_expr, no_exprs, no_location, no_parts, pick_form, place_target, read_form, shared_root, some_expr, some_location, swizzle_part, unary_form, variable_root, write_form}
+use Rattle.hl_meaning.specs.Trees.{Expr, Exprs, Form, Location, MaybeExpr, MaybeLocation, PathParts, Root, Target, a_location, an_expr, atomic_form, binary_form, build_form, bytes_target, call_form, choose_form, constant_root, convert_form, element_root, index_part, intrinsic_form, literal_form, member_part, method_form, more_exprs, more_parts, no_expr, no_exprs, no_location, no_parts, pick_form, place_target, read_form, shared_root, some_expr, some_location, swizzle_part, unary_form, variable_root, write_form}
 use Rattle.hl_meaning.specs.Programs.{StructDef, Variable}
 use Rattle.hl_meaning.specs.Places.{has_literal_indexes, is_literal}
-use Rattle.hl_inline.specs.IndexedVariables.{Mention, Reached, expr_if_mentions, expr_mentions, exprs_mentions, form_mentions, indexes_constant, indexes_variable, location_if_mentions, location_mentions, parts_mentions, place_mention, target_mentions}
-use Rattle.hl_inline.specs.Operands.{behind_expr_if, behind_root, behind_target, expr_if_list, exprs_list, filled, filled_parts, filled_place, first_expr, operand_exprs, parts_exprs, place_exprs, place_if_exprs, root_exprs, target_exprs}
+use Rattle.hl_inline.specs.IndexedVariables.{Mention, Reached, expr_if_mentions, expr_mentions, exprs_mentions, form_mentions, location_if_mentions, location_mentions, parts_mentions, place_mention, target_mentions}
+use Rattle.hl_inline.specs.Operands.{expr_if_list, exprs_list, filled_parts, filled_place, operand_exprs, parts_exprs, place_exprs, place_if_exprs, target_exprs}
 use Rattle.hl_inline.proofs.OperandLemmas.{is_call_form}
-use Rattle.hl_inline.proofs.FilledLemmas.{filled_not_call, filled_operands}
-use Rattle.hl_inline.proofs.Touching.{Touches, any_moved, or_both, or_false, or_true, touched, touches_both, touches_moved, touches_none, touches_same}
+use Rattle.hl_inline.proofs.Touching.{Touches, any_moved, or_false, touched, touches_moved}
 
 -- ---- texts
 
@@ -160,8 +158,9 @@ form_text (atomic_form target kind compare value original) plain picks = record 
     operands_text =
         texts-append (target_exprs target) (expr_if_list compare ++ value ∷ place_if_exprs original) ∙
         (ap (λ l. texts (target_exprs target) ++ l) (texts-append (expr_if_list compare) (value ∷ place_if_exprs original) ∙
-            sym (append_assoc (texts (expr_if_list compare)) (expr_mentions value) (texts (place_if_exprs original)))) ∙
+        sym (append_assoc (texts (expr_if_list compare)) (expr_mentions value) (texts (place_if_exprs original)))) ∙
         sym (append_assoc (texts (target_exprs target)) (texts (expr_if_list compare) ++ expr_mentions value) (texts (place_if_exprs original))))
+
     rest_text : texts (target_exprs target) ++ (expr_if_mentions compare ++ (expr_mentions value ++ location_if_mentions original)) ≡
         (texts (target_exprs target) ++ (texts (expr_if_list compare) ++ expr_mentions value)) ++ (own_place_if original ++ texts (place_if_exprs original))
     rest_text =
@@ -246,6 +245,7 @@ module _ (structs : List StructDef) (before : List Reached) (constants first siz
       one_true : (b : Bool) → (b || false) ≡ true → b ≡ true
       one_true true h = refl
       one_true false h = h
+
       its_own : (n : ℕ) → ((first + u == n) && not (has_literal_indexes (filled_parts parts es))) ≡ true → (first ≤ n) × (n < first + size)
       its_own n is =
           let e : first + u ≡ n = eqb-true (first + u) n (and_parts (first + u == n) _ is).0 in
@@ -260,6 +260,7 @@ module _ (structs : List StructDef) (before : List Reached) (constants first siz
       one_true : (b : Bool) → (b || false) ≡ true → b ≡ true
       one_true true h = refl
       one_true false h = h
+
       its_own : (n : ℕ) → ((u == n) && not (has_literal_indexes (filled_parts parts es))) ≡ true → n < constants
       its_own n is =
           let e : u ≡ n = eqb-true u n (and_parts (u == n) _ is).0 in

@@ -1,22 +1,22 @@
 -- What expressions index, and what becomes of them.
-use Rattle.std.proofs.Common.{◌≡◌, ◌≢◌, ◌∙◌, refl, sym, ap, subst, ℕ, zero, suc, ◌+◌, ◌<◌, ◌≤◌, ◌⊎◌, inl, inr, Bool, true, false, List, [], ◌∷◌, ◌++◌, Some, length, length-append, map, append_assoc, arith}
+use Rattle.std.proofs.Common.{◌≡◌, ◌∙◌, refl, sym, ap, subst, ℕ, suc, ◌+◌, ◌≤◌, Bool, true, false, List, [], ◌∷◌, ◌++◌, Some, length, length-append, map, append_assoc, arith}
 use Rattle.std.specs.Prelude.{◌||◌, ◌==◌, ◌&&◌, not, if◌then◌else◌, drop}
 use Rattle.std.proofs.lemmas.Bool.{and_parts, false≢true, true≢false}
 use Rattle.std.proofs.lemmas.List.{append-nil}
 use Rattle.std.proofs.lemmas.List.Folds.{list_any-append}
 use Rattle.hl_meaning.specs.Types.{Ty}
-use Rattle.hl_meaning.specs.Trees.{Expr, Form, MaybeExpr, Target, MaybeLocation, an_expr, atomic_form, binary_form, build_form, bytes_target, call_form, choose_form, convert_form, intrinsic_form, literal_form, method_form, no_expr, no_location, no_parts, pick_form, place_target, read_form, some_expr, some_location, type_of, unary_form, variable_root, write_form}
+use Rattle.hl_meaning.specs.Trees.{Expr, Form, MaybeExpr, Target, MaybeLocation, an_expr, atomic_form, binary_form, build_form, bytes_target, call_form, choose_form, convert_form, intrinsic_form, literal_form, method_form, no_expr, no_location, pick_form, place_target, read_form, some_expr, some_location, type_of, unary_form, write_form}
 use Rattle.hl_meaning.specs.Programs.{StructDef, Variable}
 use Rattle.hl_meaning.specs.Places.{is_literal}
 use Rattle.hl_inline.specs.FlatTrees.{FlatStmt, flat_local}
 use Rattle.hl_inline.specs.FlatViews.{flat_stmts_of}
-use Rattle.hl_inline.specs.IndexedVariables.{Mention, Reached, expr_mentions, flat_stmt_mentions, flat_stmts_mentions, form_mentions, indexes_variable, place_mention}
+use Rattle.hl_inline.specs.IndexedVariables.{Mention, Reached, expr_mentions, flat_stmt_mentions, flat_stmts_mentions, form_mentions, indexes_variable}
 use Rattle.hl_inline.specs.Operands.{behind_expr_if, behind_target, expr_if_list, filled, filled_place, filled_place_if, filled_target, operand_exprs, place_exprs, place_if_exprs, target_exprs}
 use Rattle.hl_inline.specs.Flattening.{Emitter, Fresh, Instance, Valued, Values, any_calls, emit_all, is_literal_form, next_of, node, over, reading, saved, settled, token_of, unnamed, values_with}
 use Rattle.hl_inline.proofs.Induction.{Every}
 use Rattle.hl_inline.proofs.OperandLemmas.{is_call_form}
 use Rattle.hl_inline.proofs.FilledLemmas.{filled_not_call, filled_operands}
-use Rattle.hl_inline.proofs.Touching.{Touches, or_both, or_four, or_false, touched, touches_both, touches_moved, touches_none, touches_same, touches_unnamed}
+use Rattle.hl_inline.proofs.Touching.{Touches, or_both, or_four, or_false, touched, touches_both, touches_none, touches_same, touches_unnamed}
 use Rattle.hl_inline.proofs.TouchedForms.{FormFits, LiteralsAs, PicksLiterally, any_form, form_touches, literals_back, literals_front, own_place, own_place_if, own_places, own_target, place_touches, texts}
 
 -- the places and calls in code
@@ -85,6 +85,7 @@ module _ (structs : List StructDef) (before : List Reached) (constants first siz
         not_true : (b : Bool) → not b ≡ true → b ≡ false
         not_true true h = absurd (false≢true h)
         not_true false h = refl
+
         by_test : (b : Bool) → (further && not x.fixed) ≡ b → EmittedAs e fresh (if b then saved x else x)
         by_test true is = saved_as e fresh x room (not_true x.fixed (and_parts further (not x.fixed) is).1) emitted
         by_test false is = emitted
@@ -95,7 +96,7 @@ module _ (structs : List StructDef) (before : List Reached) (constants first siz
       grows = others.grows ∙ (ap (λ l. l ++ others.new) emitted.grows ∙ append_assoc fresh.variables emitted.new others.new);
       touches = touches_same structs before constants first size (next_of fresh) (expr_mentions e ++ texts es) _ _ _ same
           (touches_both structs before constants first size high (next_of fresh) (next_of x.fresh) room (expr_mentions e) (texts es) _ _ emitted.new others.new
-              (grown_next fresh x.fresh emitted.new emitted.grows) emitted.touches others.touches);
+          (grown_next fresh x.fresh emitted.new emitted.grows) emitted.touches others.touches);
       literals = (emitted.literal, others.literals);
       count = ap suc others.count;
     }
@@ -123,6 +124,7 @@ module _ (structs : List StructDef) (before : List Reached) (constants first siz
       where
         x : Valued
         x = settled (further || any_calls (map em es)) ((em e).emit fresh)
+
         emitted : EmittedAs e fresh x
         emitted = settled_as (further || any_calls (map em es)) e fresh ((em e).emit fresh) room (emits.0 fresh room)
 
@@ -194,13 +196,14 @@ module _ (structs : List StructDef) (before : List Reached) (constants first siz
     own_touches from room (method_form resource count address value) es fits same = nothing_own from
     own_touches from room (atomic_form target kind compare value original) es fits same =
         both target original (drop 1 (behind_expr_if compare (behind_target target es))) fits
-            (literals_front (target_exprs target) (expr_if_list compare ++ value ∷ place_if_exprs original) es same)
-            (literals_back (value ∷ []) (place_if_exprs original) (behind_expr_if compare (behind_target target es))
-                (behind compare (behind_target target es) (literals_back (target_exprs target) (expr_if_list compare ++ value ∷ place_if_exprs original) es same)))
+        (literals_front (target_exprs target) (expr_if_list compare ++ value ∷ place_if_exprs original) es same)
+        (literals_back (value ∷ []) (place_if_exprs original) (behind_expr_if compare (behind_target target es))
+        (behind compare (behind_target target es) (literals_back (target_exprs target) (expr_if_list compare ++ value ∷ place_if_exprs original) es same)))
       where
         behind : (compare : MaybeExpr) (es : List Expr) → LiteralsAs (expr_if_list compare ++ value ∷ place_if_exprs original) es → LiteralsAs (value ∷ place_if_exprs original) (behind_expr_if compare es)
         behind no_expr es same = same
         behind (some_expr x) es same = literals_back (x ∷ []) (value ∷ place_if_exprs original) es same
+
         both : (target : Target) (original : MaybeLocation) (others : List Expr) → FormFits size constants (atomic_form target kind compare value original) → LiteralsAs (target_exprs target) es → LiteralsAs (place_if_exprs original) others →
             Touches structs before constants first size from (own_target target ++ own_place_if original)
             (touched (own_target (filled_target first target es) ++ own_place_if (filled_place_if first original others))) []
@@ -212,9 +215,9 @@ module _ (structs : List StructDef) (before : List Reached) (constants first siz
             (place_touches structs before constants first size from high room to es fits.0 a))
         both (place_target to) (some_location place) others fits a b =
             touches_same structs before constants first size from (own_place to ++ own_place place) _ _ []
-                (λ n. sym (touched-append (own_place (filled_place first to es)) (own_place (filled_place first place others)) n))
+            (λ n. sym (touched-append (own_place (filled_place first to es)) (own_place (filled_place first place others)) n))
             (touches_both structs before constants first size high from from room (own_place to) (own_place place) _ _ [] [] (omega arith)
-                (place_touches structs before constants first size from high room to es fits.0 a) (place_touches structs before constants first size from high room place others fits.1 b))
+            (place_touches structs before constants first size from high room to es fits.0 a) (place_touches structs before constants first size from high room place others fits.1 b))
 
     or_swapped : (a b d : Bool) → (a || (b || d)) ≡ (b || (a || d))
     or_swapped true true d = refl
@@ -230,7 +233,7 @@ module _ (structs : List StructDef) (before : List Reached) (constants first siz
       touches = touches_same structs before constants first size (next_of fresh) (form_mentions form) _ _ _ same
           (form_touches structs before constants first size form plain picks (next_of fresh) _ values.new
           (touches_both structs before constants first size high (next_of fresh) (next_of fresh) room (own_places form) _ _ _ [] values.new (omega arith)
-              (own_touches (next_of fresh) room form x.values fits values.literals) values.touches));
+          (own_touches (next_of fresh) room form x.values fits values.literals) values.touches));
       literal = ap (λ k. is_literal (an_expr ty at (filled k form x.values))) is ∙ literal_filled ty at form x.values;
       fixed = λ loose. literal_form_is ty at form ∙ loose;
     }
@@ -242,8 +245,8 @@ module _ (structs : List StructDef) (before : List Reached) (constants first siz
             (or_swapped (touched (own_places (filled first form x.values)) n) (touched (text_of x.code) n) (touched (texts x.values) n) ∙
             sym (touched-append (text_of x.code) (form_mentions (filled i.first form x.values)) n ∙
             ap (λ b. touched (text_of x.code) n || b) (ap (λ k. touched (form_mentions (filled k form x.values)) n) is ∙
-                (any_form (indexes_variable n) (filled first form x.values) (filled_not_call first form x.values plain) (picks_filled form x.values picks) ∙
-                ap (λ l. touched (own_places (filled first form x.values)) n || touched (texts l) n) (filled_operands first form x.values plain values.count)))))
+            (any_form (indexes_variable n) (filled first form x.values) (filled_not_call first form x.values plain) (picks_filled form x.values picks) ∙
+            ap (λ l. touched (own_places (filled first form x.values)) n || touched (texts l) n) (filled_operands first form x.values plain values.count)))))
 
     pub node_as : (i : Instance) → i.first ≡ first → (ty : Ty) (at : ℕ) (form : Form) (em : Expr → Emitter) → is_call_form form ≡ false → PicksLiterally form → FormFits size constants form →
         Every (λ e. EmitsText e (em e)) (operand_exprs form) → EmitsText (an_expr ty at form) (node i ty at form (map em (operand_exprs form)))

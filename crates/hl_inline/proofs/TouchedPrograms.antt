@@ -1,6 +1,6 @@
 -- The indexed variables of a program without calls are those of the program that it was made of.
 use Rattle.std.proofs.Common.{◌≡◌, ◌∙◌, refl, sym, ap, subst, ℕ, zero, suc, ◌+◌, ◌<◌, ◌≤◌, Bool, false, List, [], ◌∷◌, ◌++◌, map, length, length-append, Option, None, Some, slice_get, unwrap_or, append_assoc, arith}
-use Rattle.std.specs.Prelude.{◌||◌, if◌then◌else◌, option_map, take}
+use Rattle.std.specs.Prelude.{if◌then◌else◌, option_map, take}
 use Rattle.std.specs.List.{list_any}
 use Rattle.std.specs.List.Sorted.{IsPermutation}
 use Rattle.std.proofs.lemmas.List.{append-nil, length-map}
@@ -11,26 +11,24 @@ use Rattle.std.proofs.Math.Seq.{take-append_seam}
 use Rattle.hl_meaning.specs.declared.program.Parameter.{Parameter}
 use Rattle.hl_meaning.specs.declared.program.Semantic.{Semantic}
 use Rattle.hl_meaning.specs.declared.ty.Kind.{Kind}
-use Rattle.hl_meaning.specs.Types.{Ty}
-use Rattle.hl_meaning.specs.Programs.{Constant, FunctionDef, Program, StructDef, Variable}
+use Rattle.hl_meaning.specs.Programs.{Constant, FunctionDef, Program, StructDef}
 use Rattle.hl_meaning.specs.Layout.{kinds_of, words_of}
-use Rattle.hl_meaning.specs.Places.{variable_type}
 use Rattle.hl_meaning.specs.Views.{exprs_of}
-use Rattle.hl_meaning.specs.WellFormed.{IsDeclared, IsEntryIf, IsFunction, IsWellFormed, callee_params, param_of, scope_of}
+use Rattle.hl_meaning.specs.WellFormed.{IsEntryIf, IsFunction, IsWellFormed, callee_params, scope_of}
 use Rattle.hl_meaning.proofs.LayoutForms.{get-front, get-next}
 use Rattle.hl_inline.specs.FlatTrees.{FlatStmt, flat_block, flat_local, flat_named}
 use Rattle.hl_inline.specs.FlatViews.{flat_stmts_of}
-use Rattle.hl_inline.specs.IndexedVariables.{Reached, call_mention, expr_mentions, exprs_mentions, flat_indexed_lengths, indexed_constants_from, indexed_from, indexed_lengths, indexes_constant, nothing_reached, reached, reached_after, reached_by, reached_from_entry, stmts_mentions}
+use Rattle.hl_inline.specs.IndexedVariables.{Reached, exprs_mentions, flat_indexed_lengths, indexed_constants_from, indexed_from, indexed_lengths, indexes_constant, nothing_reached, reached, reached_after, reached_from_entry, stmts_mentions}
 use Rattle.hl_inline.specs.Early.{early_variables}
-use Rattle.hl_inline.specs.Flattening.{Fresh, Inlined, Instance, Laid, constant_value, entry_body, entry_fresh, entry_instance, entry_of, flat_around, flattened, inlined, inlined_after, inlined_at, lay_all, literals, next_of, nothing_inlined, outside_loops, set_constants, set_inputs, zeros_first}
+use Rattle.hl_inline.specs.Flattening.{Fresh, Inlined, Instance, Laid, entry_body, entry_fresh, entry_instance, entry_of, flattened, inlined, inlined_after, inlined_at, lay_all, literals, next_of, outside_loops, set_constants, set_inputs, zeros_first}
 use Rattle.hl_inline.proofs.Reading.{there_by_map}
 use Rattle.hl_inline.proofs.Functions.{variables_some}
 use Rattle.hl_inline.proofs.Typed.{ParamsSome, params_some}
-use Rattle.hl_inline.proofs.Touching.{Touches, indexed-by, lengths-append, lengths-same, lengths_by, reached_lengths, reached_text, touched}
-use Rattle.hl_inline.proofs.TouchedNodes.{text-append, text_of, touched-append}
+use Rattle.hl_inline.proofs.Touching.{indexed-by, lengths-append, lengths-same, lengths_by, reached_text, touched}
+use Rattle.hl_inline.proofs.TouchedNodes.{text-append, text_of}
 use Rattle.hl_inline.proofs.TouchedCalls.{BodyAs, CalleeAs}
 use Rattle.hl_inline.proofs.TouchedExpressions.{CalleeThere}
-use Rattle.hl_inline.proofs.TouchedStatements.{LaidAs, lay_all_as, same_as}
+use Rattle.hl_inline.proofs.TouchedStatements.{lay_all_as, same_as}
 
 -- ---- functions
 
@@ -99,9 +97,9 @@ module _ (p : Program) (well : IsWellFormed p) (rs : List Reached) (gs : List In
       BodyAs p.structs rs (length p.constants) (stmts_mentions d.body) own (length d.variables) fresh ((inlined gs d).body own fresh)
   body_here own fresh high room =
       let l = same_as p.structs rs (length p.constants) own.first (length d.variables) high (stmts_mentions d.body) fresh (lay_all gs own outside_loops d.body fresh) (zeros_first own d ++ (lay_all gs own outside_loops d.body fresh).code)
-              (λ n. sym (ap (λ t. touched t n) (text-append (zeros_first own d) (lay_all gs own outside_loops d.body fresh).code ∙
-                  ap (λ t. t ++ text_of (lay_all gs own outside_loops d.body fresh).code) (zeros_silent own (early_variables d)))))
-              (lay_all_as (scope_of p (length ds) d) rs own.first high gs own refl callees some_params outside_loops false d.body is_function.body fresh room) in
+      (λ n. sym (ap (λ t. touched t n) (text-append (zeros_first own d) (lay_all gs own outside_loops d.body fresh).code ∙
+      ap (λ t. t ++ text_of (lay_all gs own outside_loops d.body fresh).code) (zeros_silent own (early_variables d)))))
+      (lay_all_as (scope_of p (length ds) d) rs own.first high gs own refl callees some_params outside_loops false d.body is_function.body fresh room) in
       record { new = l.new; grows = l.grows; touches = l.touches }
 
   pub function_reaches : CalleeAs p.structs (length p.constants) (reached p.structs rs d) (inlined gs d)
@@ -150,7 +148,7 @@ constants_lengths structs h text number [] same = refl
 constants_lengths structs h text number (c ∷ constants) same =
     let here : h number ≡ list_any (indexes_constant number) text = ap h (omega arith) ∙ (same 0 (omega arith) ∙ ap (λ k. list_any (indexes_constant k) text) (omega arith)) in
     let next : lengths_by structs h (suc number) (map (λ c. c.variable) constants) ≡ indexed_constants_from structs text (suc number) constants =
-        constants_lengths structs h text (suc number) constants (λ k low. ap h (omega arith) ∙ (same (suc k) (omega (arith, low)) ∙ ap (λ j. list_any (indexes_constant j) text) (omega arith))) in
+    constants_lengths structs h text (suc number) constants (λ k low. ap h (omega arith) ∙ (same (suc k) (omega (arith, low)) ∙ ap (λ j. list_any (indexes_constant j) text) (omega arith))) in
     ap (λ b. (if b then words_of structs c.variable.ty ∷ [] else []) ++ lengths_by structs h (suc number) (map (λ c. c.variable) constants)) here ∙
     ap (λ l. (if list_any (indexes_constant number) text then words_of structs c.variable.ty ∷ [] else []) ++ l) next
 
@@ -193,18 +191,18 @@ module _ (p : Program) (well : IsWellFormed p) (r : Reached) (g : Inlined) (call
       (lengths-append p.structs by_body 0 (map (λ c. c.variable) p.constants) (g.variables ++ there.new) ∙
       (ap (λ l. l ++ lengths_by p.structs by_body (0 + length (map (λ c. c.variable) p.constants)) (g.variables ++ there.new)) constants_part ∙
       ap (λ l. indexed_constants_from p.structs r.text 0 p.constants ++ l)
-          (ap (λ k. lengths_by p.structs by_body k (g.variables ++ there.new)) (omega (arith, length-map p.constants (λ c. c.variable))) ∙
-          (lengths-append p.structs by_body (length p.constants) g.variables there.new ∙
-          (ap (λ l. l ++ lengths_by p.structs by_body (length p.constants + length g.variables) there.new) own_part ∙
-          ap (λ k. indexed_from p.structs callee.text 0 g.variables ++ lengths_by p.structs by_body k there.new) (sym fresh_count))))))
+      (ap (λ k. lengths_by p.structs by_body k (g.variables ++ there.new)) (omega (arith, length-map p.constants (λ c. c.variable))) ∙
+      (lengths-append p.structs by_body (length p.constants) g.variables there.new ∙
+      (ap (λ l. l ++ lengths_by p.structs by_body (length p.constants + length g.variables) there.new) own_part ∙
+      ap (λ k. indexed_from p.structs callee.text 0 g.variables ++ lengths_by p.structs by_body k there.new) (sym fresh_count))))))
 
   pub around_entry : IsPermutation (indexed_from p.structs (text_of whole_code) 0 body.fresh.variables) (indexed_constants_from p.structs r.text 0 p.constants ++ r.lengths)
   around_entry =
       subst (λ l. IsPermutation l (indexed_constants_from p.structs r.text 0 p.constants ++ r.lengths))
-          (sym (ap (λ t. indexed_from p.structs t 0 body.fresh.variables) whole_text ∙ (indexed-by p.structs (text_of body.code) 0 body.fresh.variables ∙ lengths_are)))
+      (sym (ap (λ t. indexed_from p.structs t 0 body.fresh.variables) whole_text ∙ (indexed-by p.structs (text_of body.code) 0 body.fresh.variables ∙ lengths_are)))
       (subst (λ l. IsPermutation (indexed_constants_from p.structs r.text 0 p.constants ++ (indexed_from p.structs callee.text 0 g.variables ++ lengths_by p.structs by_body (next_of (entry_fresh p g)) there.new)) (indexed_constants_from p.structs r.text 0 p.constants ++ l)) (sym callee.lengths)
       (IsPermutation-append _ _ _ _ (IsPermutation-refl (indexed_constants_from p.structs r.text 0 p.constants))
-          (IsPermutation-append _ _ _ _ (IsPermutation-refl (indexed_from p.structs callee.text 0 g.variables)) there.touches.lengths)))
+      (IsPermutation-append _ _ _ _ (IsPermutation-refl (indexed_from p.structs callee.text 0 g.variables)) there.touches.lengths)))
 
 -- they have the same lengths, up to order
 pub keeps_lengths : (p : Program) → IsWellFormed p → IsPermutation (flat_indexed_lengths (flattened p)) (indexed_lengths p)

@@ -2,14 +2,13 @@
 use Rattle.std.proofs.Common.{◌≡◌, ◌∙◌, refl, sym, ap, subst, ℕ, suc, ◌+◌, ◌≤◌, Bool, true, false, List, [], ◌∷◌, ◌++◌, length, Option, None, Some, slice_get, append_assoc, arith}
 use Rattle.std.specs.Prelude.{◌||◌}
 use Rattle.std.proofs.lemmas.List.{append-nil}
-use Rattle.hl_meaning.specs.Types.{Ty}
-use Rattle.hl_meaning.specs.Trees.{Expr, Form, MaybeStmt, Stmt, Stmts, an_expr, atomic_form, binary_form, block_stmt, break_stmt, build_form, call_form, choose_form, continue_stmt, convert_form, do_stmt, for_stmt, if_stmt, intrinsic_form, literal_form, local_stmt, method_form, more_stmts, no_stmt, no_stmts, pick_form, read_form, return_stmt, run_stmt, some_stmt, unary_form, while_stmt, write_form}
+use Rattle.hl_meaning.specs.Trees.{Expr, MaybeStmt, Stmt, Stmts, an_expr, atomic_form, binary_form, block_stmt, break_stmt, build_form, call_form, choose_form, continue_stmt, convert_form, do_stmt, for_stmt, if_stmt, intrinsic_form, literal_form, local_stmt, method_form, more_stmts, no_stmt, no_stmts, pick_form, read_form, return_stmt, run_stmt, some_stmt, unary_form, while_stmt, write_form}
 use Rattle.hl_meaning.specs.Programs.{FunctionDef, StructDef, Variable}
 use Rattle.hl_meaning.specs.Places.{Scope}
 use Rattle.hl_meaning.specs.WellFormed.{AreStmts, IsConditionIf, IsExpr, IsExprIf, IsLocal, IsReturn, IsStmt, IsStmtIf, callee_params}
-use Rattle.hl_inline.specs.FlatTrees.{FlatStmt, flat_block, flat_if, flat_leave, flat_local, flat_loop, flat_named, flat_run, no_flat_stmts, some_flat_stmt}
+use Rattle.hl_inline.specs.FlatTrees.{FlatStmt, flat_block, flat_if, flat_leave, flat_local, flat_run, no_flat_stmts, some_flat_stmt}
 use Rattle.hl_inline.specs.IndexedVariables.{Mention, Reached, expr_mentions, expr_option_mentions, flat_stmt_if_mentions, flat_stmt_mentions, stmt_if_mentions, stmt_mentions, stmts_mentions}
-use Rattle.hl_inline.specs.Flattening.{Fresh, Inlined, Instance, Jumps, Laid, Valued, as_alternative, as_one, block_of, choice_of, emitted, emitter, inlined_at, is_call, jumps_of, laid, laid_then, lay, lay_all, lay_body, lay_if, lay_local, lay_loop, lay_return, lay_run, lay_run_if, lay_test, lay_test_if, next_of, nothing_laid, reading, run_of, set_to, test_of, with_jumps}
+use Rattle.hl_inline.specs.Flattening.{Fresh, Inlined, Instance, Jumps, Laid, Valued, as_alternative, as_one, block_of, choice_of, emitted, inlined_at, jumps_of, laid, laid_then, lay, lay_all, lay_body, lay_if, lay_local, lay_loop, lay_return, lay_run, lay_run_if, lay_test, lay_test_if, next_of, run_of, set_to, test_of, with_jumps}
 use Rattle.hl_inline.proofs.Typed.{ParamsSome}
 use Rattle.hl_inline.proofs.Touching.{Touches, or_both, or_false, touched, touches_both, touches_none, touches_same, touches_swapped}
 use Rattle.hl_inline.proofs.TouchedNodes.{EmittedAs, grown_next, text-append, text_of, touched-append, untouched_reading}
@@ -93,7 +92,7 @@ module _ (structs : List StructDef) (before : List Reached) (constants first siz
   test_as : (e : Expr) (name : ℕ) (fresh : Fresh) (x : Valued) → EmittedAs structs before constants first size e fresh x → LaidAs structs before constants first size (expr_mentions e) fresh (test_of name x)
   test_as e name fresh x emitted =
       value_as e fresh x (test_of name x).code (λ n. touched-append (text_of x.code) (expr_mentions x.value) n ∙
-          (ap (λ l. touched (text_of x.code) n || touched l n) (sym (append-nil (expr_mentions x.value))) ∙ sym (more_touched x.code (flat_if x.value (flat_block no_flat_stmts) (some_flat_stmt (flat_leave name))) n))) emitted
+      (ap (λ l. touched (text_of x.code) n || touched l n) (sym (append-nil (expr_mentions x.value))) ∙ sym (more_touched x.code (flat_if x.value (flat_block no_flat_stmts) (some_flat_stmt (flat_leave name))) n))) emitted
 
   run_as : (e : Expr) (fresh : Fresh) (x : Valued) → EmittedAs structs before constants first size e fresh x → LaidAs structs before constants first size (expr_mentions e) fresh (run_of false x)
   run_as e fresh x emitted =
@@ -118,7 +117,7 @@ module _ (structs : List StructDef) (before : List Reached) (constants first siz
     touches = touches_same structs before constants first size (next_of fresh) (expr_mentions cond ++ (xs ++ ys)) _ _ _ same
         (touches_both structs before constants first size high (next_of fresh) (next_of x.fresh) room (expr_mentions cond) (xs ++ ys) _ _ emitted.new (one.new ++ other.new) (grown_next fresh x.fresh emitted.new emitted.grows) emitted.touches
         (touches_both structs before constants first size high (next_of x.fresh) (next_of a.fresh) (omega (arith, room, grown_next fresh x.fresh emitted.new emitted.grows)) xs ys _ _ one.new other.new
-            (grown_next x.fresh a.fresh one.new one.grows) one.touches other.touches));
+        (grown_next x.fresh a.fresh one.new one.grows) one.touches other.touches));
   }
     where
       same : (n : ℕ) → (touched (text_of x.code ++ expr_mentions x.value) n || (touched (text_of a.code) n || touched (text_of b.code) n)) ≡ touched (text_of (choice_of x a.code b.code b.fresh).code) n
@@ -127,8 +126,8 @@ module _ (structs : List StructDef) (before : List Reached) (constants first siz
           (or_if (touched (text_of x.code) n) (touched (expr_mentions x.value) n) (touched (text_of a.code) n) (touched (text_of b.code) n) ∙
           sym (more_touched x.code (flat_if x.value (as_one a.code) (as_alternative b.code)) n ∙
           ap (λ q. touched (text_of x.code) n || q) (touched-append (expr_mentions x.value) (flat_stmt_mentions (as_one a.code) ++ flat_stmt_if_mentions (as_alternative b.code)) n ∙
-              ap (λ q. touched (expr_mentions x.value) n || q) (touched-append (flat_stmt_mentions (as_one a.code)) (flat_stmt_if_mentions (as_alternative b.code)) n ∙
-              or_both _ _ _ _ (one_touched a.code n) (alternative_touched b.code n)))))
+          ap (λ q. touched (expr_mentions x.value) n || q) (touched-append (flat_stmt_mentions (as_one a.code)) (flat_stmt_if_mentions (as_alternative b.code)) n ∙
+          or_both _ _ _ _ (one_touched a.code n) (alternative_touched b.code n)))))
 
 module _ (s : Scope) (before : List Reached) (first : ℕ) (high : length s.constants ≤ first) (k : List Inlined) (i : Instance) (is : i.first ≡ first)
     (callees : (function : ℕ) (d : FunctionDef) → slice_get s.functions function ≡ Some d → CalleeThere s before function d (inlined_at k function)) (some_params : (function : ℕ) → ParamsSome (callee_params (slice_get s.functions function))) where
@@ -180,8 +179,8 @@ module _ (s : Scope) (before : List Reached) (first : ℕ) (high : length s.cons
   lay_return_as (Some e) h fresh room =
       subst (λ l. Here l fresh (lay_return k i (Some e) fresh)) (append-nil (expr_mentions e))
       (then_as s.structs before (length s.constants) first (length s.variables) high (expr_mentions e) [] fresh (set_to i.result (emitted k i e fresh)) (laid (flat_leave i.exit)) room
-          (set_as s.structs before (length s.constants) first (length s.variables) high e i.result fresh (emitted k i e fresh) (expr_as e h.0 fresh room))
-          (nothing_here (flat_leave i.exit) refl (emitted k i e fresh).fresh))
+      (set_as s.structs before (length s.constants) first (length s.variables) high e i.result fresh (emitted k i e fresh) (expr_as e h.0 fresh room))
+      (nothing_here (flat_leave i.exit) refl (emitted k i e fresh).fresh))
 
   lay_test_as : (name : ℕ) (e : Expr) → IsExpr s e → (fresh : Fresh) → HasRoom fresh → Here (expr_mentions e) fresh (lay_test k i name e fresh)
   lay_test_as name e h fresh room = test_as s.structs before (length s.constants) first (length s.variables) high e name fresh (emitted k i e fresh) (expr_as e h fresh room)
@@ -222,24 +221,24 @@ module _ (s : Scope) (before : List Reached) (first : ℕ) (high : length s.cons
         let inside : HasRoom x.fresh = omega (arith, room, grown_next fresh x.fresh e.new e.grows) in
         let a : Here (stmt_mentions consequent) x.fresh (lay k i j consequent x.fresh) = lay_as j in_loop consequent h.1 x.fresh inside in
         choice_as s.structs before (length s.constants) first (length s.variables) high cond (stmt_mentions consequent) (stmt_if_mentions alternative) fresh x (lay k i j consequent x.fresh)
-            (lay_if k i j alternative (lay k i j consequent x.fresh).fresh) room e a
-            (lay_if_as j in_loop alternative h.2 (lay k i j consequent x.fresh).fresh (more_room (stmt_mentions consequent) x.fresh (lay k i j consequent x.fresh) a inside))
+        (lay_if k i j alternative (lay k i j consequent x.fresh).fresh) room e a
+        (lay_if_as j in_loop alternative h.2 (lay k i j consequent x.fresh).fresh (more_room (stmt_mentions consequent) x.fresh (lay k i j consequent x.fresh) a inside))
     lay_as j in_loop (for_stmt init cond step body) h fresh room =
         block_as s.structs before (length s.constants) first (length s.variables) high (stmts_mentions init ++ (expr_option_mentions cond ++ (expr_option_mentions step ++ stmt_mentions body))) fresh _
         (then_part (stmts_mentions init) (expr_option_mentions cond ++ (expr_option_mentions step ++ stmt_mentions body)) (lay_all k i j init) _ (lay_all_as j in_loop init h.0)
-            (λ inner inner_room. loop_part (expr_option_mentions cond ++ (expr_option_mentions step ++ stmt_mentions body)) inner.names _
-                (then_part (expr_option_mentions cond) (expr_option_mentions step ++ stmt_mentions body) (lay_test_if k i inner.names cond) _ (lay_test_if_as inner.names cond h.1)
-                (swapped_part (stmt_mentions body) (expr_option_mentions step) _
-                (then_part (stmt_mentions body) (expr_option_mentions step) (λ fresh'. lay_body (suc inner.names) (lay k i (jumps_of inner) body fresh')) (lay_run_if k i step)
-                    (body_part (stmt_mentions body) (suc inner.names) (lay k i (jumps_of inner) body) (lay_as (jumps_of inner) true body h.3)) (lay_run_if_as step h.2)))) inner inner_room) fresh room)
+        (λ inner inner_room. loop_part (expr_option_mentions cond ++ (expr_option_mentions step ++ stmt_mentions body)) inner.names _
+        (then_part (expr_option_mentions cond) (expr_option_mentions step ++ stmt_mentions body) (lay_test_if k i inner.names cond) _ (lay_test_if_as inner.names cond h.1)
+        (swapped_part (stmt_mentions body) (expr_option_mentions step) _
+        (then_part (stmt_mentions body) (expr_option_mentions step) (λ fresh'. lay_body (suc inner.names) (lay k i (jumps_of inner) body fresh')) (lay_run_if k i step)
+        (body_part (stmt_mentions body) (suc inner.names) (lay k i (jumps_of inner) body) (lay_as (jumps_of inner) true body h.3)) (lay_run_if_as step h.2)))) inner inner_room) fresh room)
     lay_as j in_loop (while_stmt cond body) h fresh room =
         loop_part (expr_mentions cond ++ stmt_mentions body) fresh.names _
         (then_part (expr_mentions cond) (stmt_mentions body) (lay_test k i fresh.names cond) (λ fresh'. lay_body (suc fresh.names) (lay k i (jumps_of fresh) body fresh')) (lay_test_as fresh.names cond h.0.0)
-            (body_part (stmt_mentions body) (suc fresh.names) (lay k i (jumps_of fresh) body) (lay_as (jumps_of fresh) true body h.1))) fresh room
+        (body_part (stmt_mentions body) (suc fresh.names) (lay k i (jumps_of fresh) body) (lay_as (jumps_of fresh) true body h.1))) fresh room
     lay_as j in_loop (do_stmt body cond) h fresh room =
         loop_part (stmt_mentions body ++ expr_mentions cond) fresh.names _
         (then_part (stmt_mentions body) (expr_mentions cond) (λ fresh'. lay_body (suc fresh.names) (lay k i (jumps_of fresh) body fresh')) (lay_test k i fresh.names cond)
-            (body_part (stmt_mentions body) (suc fresh.names) (lay k i (jumps_of fresh) body) (lay_as (jumps_of fresh) true body h.0)) (lay_test_as fresh.names cond h.1.0)) fresh room
+        (body_part (stmt_mentions body) (suc fresh.names) (lay k i (jumps_of fresh) body) (lay_as (jumps_of fresh) true body h.0)) (lay_test_as fresh.names cond h.1.0)) fresh room
     lay_as j in_loop break_stmt h fresh room = nothing_here (flat_leave j.break_name) refl fresh
     lay_as j in_loop continue_stmt h fresh room = nothing_here (flat_leave j.continue_name) refl fresh
     lay_as j in_loop (return_stmt value) h fresh room = lay_return_as value h fresh room

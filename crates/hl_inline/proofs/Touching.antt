@@ -1,7 +1,7 @@
 -- Which variables a text of a program without calls indexes by expressions that aren't literals, and the lengths of those
 -- among some variables.
-use Rattle.std.proofs.Common.{◌≡◌, ◌≢◌, ◌∙◌, refl, sym, ap, subst, ℕ, zero, suc, ◌+◌, ◌<◌, ◌≤◌, ◌⊎◌, inl, inr, Bool, true, false, List, [], ◌∷◌, ◌++◌, length, append_assoc, length-append, arith}
-use Rattle.std.specs.Prelude.{◌||◌, ◌==◌, ◌&&◌, not, if◌then◌else◌, flat_map}
+use Rattle.std.proofs.Common.{◌≡◌, ◌∙◌, refl, sym, ap, subst, ℕ, suc, ◌+◌, ◌<◌, ◌≤◌, ◌⊎◌, inl, inr, Bool, true, false, List, [], ◌∷◌, ◌++◌, length, append_assoc, length-append, arith}
+use Rattle.std.specs.Prelude.{◌||◌, if◌then◌else◌, flat_map}
 use Rattle.std.specs.List.{list_any}
 use Rattle.std.specs.List.Sorted.{IsPermutation}
 use Rattle.std.proofs.lemmas.Bool.{false≢true, true≢false}
@@ -41,7 +41,7 @@ lengths-same structs g h m n [] same = refl
 lengths-same structs g h m n (v ∷ variables) same =
     let here : g m ≡ h n = ap g (omega arith) ∙ (same 0 (omega arith) ∙ ap h (omega arith)) in
     let next : lengths_by structs g (suc m) variables ≡ lengths_by structs h (suc n) variables =
-        lengths-same structs g h (suc m) (suc n) variables (λ j low. ap g (omega arith) ∙ (same (suc j) (omega (arith, low)) ∙ ap h (omega arith))) in
+    lengths-same structs g h (suc m) (suc n) variables (λ j low. ap g (omega arith) ∙ (same (suc j) (omega (arith, low)) ∙ ap h (omega arith))) in
     ap (λ b. (if b then words_of structs v.ty ∷ [] else []) ++ lengths_by structs g (suc m) variables) here ∙
     ap (λ l. (if h n then words_of structs v.ty ∷ [] else []) ++ l) next
 
@@ -104,6 +104,7 @@ or_both a b c d e f = ap (λ x. x || b) e ∙ ap (λ x. c || x) f
 any_four : (p : Mention → Bool) (us vs ws xs : List Mention) → list_any p (us ++ (vs ++ (ws ++ xs))) ≡ (list_any p us || (list_any p vs || (list_any p ws || list_any p xs)))
 any_four p us vs ws xs =
     list_any-append p us (vs ++ (ws ++ xs)) ∙ ap (λ x. list_any p us || x) (list_any-append p vs (ws ++ xs) ∙ ap (λ x. list_any p vs || x) (list_any-append p ws xs))
+
 pub any_moved : (p : Mention → Bool) (us vs ws xs : List Mention) → list_any p (us ++ (vs ++ (ws ++ xs))) ≡ list_any p (us ++ (ws ++ (vs ++ xs)))
 any_moved p us vs ws xs = any_four p us vs ws xs ∙ (or_moved (list_any p us) (list_any p vs) (list_any p ws) (list_any p xs) ∙ sym (any_four p us ws vs xs))
 
@@ -148,7 +149,7 @@ module _ (structs : List StructDef) (before : List Reached) (constants first siz
     constant = λ k low. or_both _ _ _ _ (a.constant k low) (b.constant k low) ∙ constant_both k;
     lengths = subst (λ l. IsPermutation l (reached_lengths before (xs ++ ys))) (sym all_lengths)
         (subst (IsPermutation (lengths_by structs g from new ++ lengths_by structs h next more)) (sym (flat_map-append (λ m. (reached_by before m).lengths) xs ys))
-            (IsPermutation-append _ _ _ _ a.lengths b.lengths));
+        (IsPermutation-append _ _ _ _ a.lengths b.lengths));
     within = λ n true_there. by_case n (or_true (g n) (h n) true_there);
   }
     where
@@ -158,17 +159,21 @@ module _ (structs : List StructDef) (before : List Reached) (constants first siz
       constant_both k =
           or_four (list_any (indexes_constant k) xs) (list_any (indexes_constant k) (reached_text before xs)) (list_any (indexes_constant k) ys) (list_any (indexes_constant k) (reached_text before ys)) ∙
           sym (or_both _ _ _ _ (list_any-append (indexes_constant k) xs ys)
-              (ap (list_any (indexes_constant k)) (flat_map-append (λ m. (reached_by before m).text) xs ys) ∙ list_any-append (indexes_constant k) (reached_text before xs) (reached_text before ys)))
+          (ap (list_any (indexes_constant k)) (flat_map-append (λ m. (reached_by before m).text) xs ys) ∙ list_any-append (indexes_constant k) (reached_text before xs) (reached_text before ys)))
+
       first_lengths : lengths_by structs (λ n. g n || h n) from new ≡ lengths_by structs g from new
       first_lengths = lengths-same structs (λ n. g n || h n) g from from new (λ j low. or_false (g (from + j)) (h (from + j))
           (untouched next ys h more b (from + j) (omega (arith, high, room)) (inr (omega (arith, room))) (inl (omega (arith, low, is)))))
+
       last_lengths : lengths_by structs (λ n. g n || h n) (from + length new) more ≡ lengths_by structs h next more
       last_lengths = lengths-same structs (λ n. g n || h n) h (from + length new) next more (λ j low.
           or_none (g ((from + length new) + j)) (h ((from + length new) + j)) (untouched from xs g new a ((from + length new) + j) (omega (arith, high, room)) (inr (omega (arith, room))) (inr (omega arith))) ∙
           ap (λ k. h (k + j)) (sym is))
+
       all_lengths : lengths_by structs (λ n. g n || h n) from (new ++ more) ≡ lengths_by structs g from new ++ lengths_by structs h next more
       all_lengths = lengths-append structs (λ n. g n || h n) from new more ∙
           (ap (λ l. l ++ lengths_by structs (λ n. g n || h n) (from + length new) more) first_lengths ∙ ap (λ l. lengths_by structs g from new ++ l) last_lengths)
+
       by_case : (n : ℕ) → (g n ≡ true) ⊎ (h n ≡ true) → (n < constants) ⊎ (((first ≤ n) × (n < first + size)) ⊎ ((from ≤ n) × (n < from + length (new ++ more))))
       by_case n (inl is_first) = wider (a.within n is_first)
         where
@@ -196,20 +201,25 @@ module _ (structs : List StructDef) (before : List Reached) (constants first siz
       flat_four : {A : Type 0} (f : Mention → List A) (us vs ws xs : List Mention) → flat_map f (us ++ (vs ++ (ws ++ xs))) ≡ flat_map f us ++ (flat_map f vs ++ (flat_map f ws ++ flat_map f xs))
       flat_four f us vs ws xs =
           flat_map-append f us (vs ++ (ws ++ xs)) ∙ ap (λ x. flat_map f us ++ x) (flat_map-append f vs (ws ++ xs) ∙ ap (λ x. flat_map f vs ++ x) (flat_map-append f ws xs))
+
       text_of_call : Mention → List Mention
       text_of_call m = (reached_by before m).text
+
       lengths_of_call : Mention → List ℕ
       lengths_of_call m = (reached_by before m).lengths
+
       texts_moved : (k : ℕ) → list_any (indexes_constant k) (reached_text before (us ++ (vs ++ (ws ++ xs)))) ≡ list_any (indexes_constant k) (reached_text before (us ++ (ws ++ (vs ++ xs))))
       texts_moved k =
           ap (list_any (indexes_constant k)) (flat_four text_of_call us vs ws xs) ∙
           (any_moved (indexes_constant k) (flat_map text_of_call us) (flat_map text_of_call vs) (flat_map text_of_call ws) (flat_map text_of_call xs) ∙
           sym (ap (list_any (indexes_constant k)) (flat_four text_of_call us ws vs xs)))
+
       swap_middle : (us vs ws xs : List ℕ) → IsPermutation (us ++ (vs ++ (ws ++ xs))) (us ++ (ws ++ (vs ++ xs)))
       swap_middle us vs ws xs =
           IsPermutation-append_right us (vs ++ (ws ++ xs)) (ws ++ (vs ++ xs))
           (subst (λ l. IsPermutation l (ws ++ (vs ++ xs))) (append_assoc vs ws xs)
           (subst (IsPermutation ((vs ++ ws) ++ xs)) (append_assoc ws vs xs) (IsPermutation-append_left xs (vs ++ ws) (ws ++ vs) (IsPermutation-append_comm vs ws))))
+
       lengths_moved : IsPermutation (reached_lengths before (us ++ (vs ++ (ws ++ xs)))) (reached_lengths before (us ++ (ws ++ (vs ++ xs))))
       lengths_moved =
           subst (λ l. IsPermutation l (reached_lengths before (us ++ (ws ++ (vs ++ xs))))) (sym (flat_four lengths_of_call us vs ws xs))
@@ -236,8 +246,9 @@ module _ (structs : List StructDef) (before : List Reached) (constants first siz
       all_lengths : lengths_by structs h from (new ++ more) ≡ lengths_by structs h from new
       all_lengths = lengths-append structs h from new more ∙
           (ap (λ l. lengths_by structs h from new ++ l) (lengths-none structs h (from + length new) more (λ j low.
-              untouched from text h new t ((from + length new) + j) (omega (arith, high, room)) (inr (omega (arith, room))) (inr (omega arith)))) ∙
+          untouched from text h new t ((from + length new) + j) (omega (arith, high, room)) (inr (omega (arith, room))) (inr (omega arith)))) ∙
           append-nil (lengths_by structs h from new))
+
       wider : (n : ℕ) → (n < constants) ⊎ (((first ≤ n) × (n < first + size)) ⊎ ((from ≤ n) × (n < from + length new))) → (n < constants) ⊎ (((first ≤ n) × (n < first + size)) ⊎ ((from ≤ n) × (n < from + length (new ++ more))))
       wider n (inl low) = inl low
       wider n (inr (inl own)) = inr (inl own)

@@ -1,0 +1,99 @@
+//! Arithmetic on words of 32 bits. As a signed number a word is in two's complement.
+
+use lane_core::LaneFault;
+
+/// A truth value as a word.
+pub(crate) fn truth(value: bool) -> u32 {
+    u32::from(value)
+}
+
+/// Whether a word stands for true.
+pub(crate) fn holds(word: u32) -> bool {
+    word != 0
+}
+
+/// A quotient of numbers without a sign.
+///
+/// # Errors
+/// `DivideByZero` for the divisor 0.
+pub(crate) fn unsigned_quotient(dividend: u32, divisor: u32) -> Result<u32, LaneFault> {
+    if divisor == 0 {
+        Err(LaneFault::DivideByZero)
+    } else {
+        Ok(dividend / divisor)
+    }
+}
+
+/// A remainder of numbers without a sign.
+///
+/// # Errors
+/// `DivideByZero` for the divisor 0.
+pub(crate) fn unsigned_remainder(dividend: u32, divisor: u32) -> Result<u32, LaneFault> {
+    if divisor == 0 {
+        Err(LaneFault::DivideByZero)
+    } else {
+        Ok(dividend % divisor)
+    }
+}
+
+/// Whether the quotient of signed numbers fits no word: that of the least number by -1.
+fn is_too_large(dividend: u32, divisor: u32) -> bool {
+    dividend == 2147483648 && divisor == 4294967295
+}
+
+/// A quotient of signed numbers, truncated toward zero.
+///
+/// # Errors
+/// `DivideOverflow` for the least number by -1, and `DivideByZero` for the divisor 0.
+pub(crate) fn signed_quotient(dividend: u32, divisor: u32) -> Result<u32, LaneFault> {
+    if is_too_large(dividend, divisor) {
+        Err(LaneFault::DivideOverflow)
+    } else if divisor == 0 {
+        Err(LaneFault::DivideByZero)
+    } else {
+        Ok((dividend as i32 / divisor as i32) as u32)
+    }
+}
+
+/// A remainder of signed numbers, with the sign of the dividend.
+///
+/// # Errors
+/// `DivideOverflow` for the least number by -1, and `DivideByZero` for the divisor 0.
+pub(crate) fn signed_remainder(dividend: u32, divisor: u32) -> Result<u32, LaneFault> {
+    if is_too_large(dividend, divisor) {
+        Err(LaneFault::DivideOverflow)
+    } else if divisor == 0 {
+        Err(LaneFault::DivideByZero)
+    } else {
+        Ok((dividend as i32 % divisor as i32) as u32)
+    }
+}
+
+/// A word shifted to the left by the low five bits of a count.
+pub(crate) fn shift_left(word: u32, count: u32) -> u32 {
+    word << (count % 32)
+}
+
+/// A word shifted to the right by the low five bits of a count.
+pub(crate) fn unsigned_shift_right(word: u32, count: u32) -> u32 {
+    word >> (count % 32)
+}
+
+/// The same of a signed word, which keeps its sign.
+pub(crate) fn signed_shift_right(word: u32, count: u32) -> u32 {
+    ((word as i32) >> (count % 32)) as u32
+}
+
+/// Whether one signed word is less than another.
+pub(crate) fn signed_less(left: u32, right: u32) -> bool {
+    (left as i32) < (right as i32)
+}
+
+/// The place of the lowest bit that is set, and a word of ones where none is.
+pub(crate) fn first_bit_low(word: u32) -> u32 {
+    if word == 0 {
+        4294967295
+    } else {
+        word.trailing_zeros()
+    }
+}

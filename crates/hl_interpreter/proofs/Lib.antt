@@ -1,1 +1,5 @@
+pub mod Callees
+pub mod Forms
+pub mod Meeting
+pub mod Turns
 pub mod Weights

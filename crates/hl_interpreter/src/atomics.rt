@@ -1,6 +1,15 @@
 //! Atomic operations. Each is one event, whose reply is the word that was there before.
 
+ghost use Rattle.std.specs.Prelude.{◌≡◌, [], ◌∷◌};
+ghost use Rattle.hl_meaning.specs.Views.{plain_location, plain_maybe_location, plain_target};
+ghost use Rattle.hl_source.specs.Expressions.{atomic_original, write_if};
+ghost use Rattle.hl_source.specs.Memory.{atomic_word, buffer_atomic, shared_atomic, shared_size, within};
+ghost use Rattle.hl_source.specs.State.{asks_word};
+ghost use Rattle.hl_interpreter.specs.HeldPlaces.{plain_holder};
+ghost use Rattle.hl_interpreter.specs.Runs.{Does, Meets, context_of, run_context, state_of};
+
 use crate::buffers::byte_offset;
+use crate::components::word_at;
 use crate::memory::write_place;
 use crate::places::{Holder, place_of, slot_of};
 use crate::reading::shared_size;
@@ -10,7 +19,9 @@ use hl_meaning::{Location, Target};
 use lane_core::{AtomicKind, Cell, Event, LaneFault, Slot};
 
 /// The event on a word of a groupshared variable: an operation of a kind, or else a compare exchange.
-fn shared_atomic(cell: Cell, kind: Option<AtomicKind>, compare: u32, word: u32) -> Event {
+fn shared_atomic(cell: Cell, kind: Option<AtomicKind>, compare: u32, word: u32) -> Event
+    ensures { result ≡ shared_atomic cell kind compare word }
+{
     match kind {
         Some(kind) => Event::SharedAtomic { cell, kind, word },
         None => Event::SharedCompareExchange {
@@ -29,7 +40,9 @@ fn buffer_atomic(
     kind: Option<AtomicKind>,
     compare: u32,
     word: u32,
-) -> Event {
+) -> Event
+    ensures { result ≡ buffer_atomic slot index offset kind compare word }
+{
     match kind {
         Some(kind) => Event::BufferAtomic {
             slot,
@@ -56,7 +69,10 @@ fn atomic_shared(
     compare: u32,
     word: u32,
     state: &mut State,
-) -> Result<u32, Stop> {
+) -> Result<u32, Stop>
+    ensures { Meets (λ before. before) result (state_of run.now.replies.now state.new)
+        (within cell.word (shared_size (run_context run.now) cell.variable) (asks_word (shared_atomic cell kind compare word)) (state_of run.now.replies.now state.old)) }
+{
     let size = shared_size(run, cell.variable)?;
     if cell.word >= size {
         return Err(Stop::from(LaneFault::OutOfBounds));
@@ -73,7 +89,9 @@ fn atomic_word(
     compare: u32,
     word: u32,
     state: &mut State,
-) -> Result<u32, Stop> {
+) -> Result<u32, Stop>
+    ensures { Meets (λ before. before) result (state_of run.now.replies.now state.new) (atomic_word (run_context run.now) (plain_holder holder) offset kind compare word (state_of run.now.replies.now state.old)) }
+{
     match holder {
         Holder::Shared(number) => {
             let cell = Cell {
@@ -102,7 +120,9 @@ pub(crate) fn atomic_original(
     compare: u32,
     word: u32,
     state: &mut State,
-) -> Result<u32, Stop> {
+) -> Result<u32, Stop>
+    ensures { Meets (λ before. before) result (state_of context.now.run.now.replies.now state.new) (atomic_original (context_of context.now) (plain_target target.now) kind indexes.now compare word (state_of context.now.run.now.replies.now state.old)) }
+{
     let run = context.run;
     match target {
         Target::Place(location) => {
@@ -111,7 +131,7 @@ pub(crate) fn atomic_original(
         }
         Target::Bytes { resource, .. } => {
             let slot = slot_of(run, *resource);
-            let address = indexes.get(0).copied().unwrap_or(0);
+            let address = word_at(indexes, 0);
             asks_word(run, buffer_atomic(slot, address, 0, kind, compare, word), state)
         }
     }
@@ -124,7 +144,9 @@ pub(crate) fn write_original(
     indexes: &[u32],
     word: u32,
     state: &mut State,
-) -> Result<(), Stop> {
+) -> Result<(), Stop>
+    ensures { Does result (state_of context.now.run.now.replies.now state.new) (write_if (context_of context.now) (plain_maybe_location original.now) indexes.now (word ∷ []) (state_of context.now.run.now.replies.now state.old)) }
+{
     match original {
         Some(place) => write_place(context, place, indexes, &[word], state),
         None => Ok(()),

@@ -3,6 +3,20 @@
 //! An expression evaluates its operands from left to right, and then acts on their words. All functions give want of
 //! memory where memory is refused, and the end of the run where it ends in them.
 
+ghost use Rattle.std.specs.Prelude.{◌≡◌, ℕ, ◌∷◌, ◌++◌, ◌^◌, ◌<◌, List, [], IfOk, OnOk, drop, length, map, option_map, slice_get, slice_index, slice_index_or, slice_set, take, unwrap_or};
+ghost use Rattle.std.specs.List.{concat};
+ghost use Rattle.hl_meaning.specs.Trees.{atomic_form, binary_form, call_form, choose_form, do_stmt, for_stmt, if_stmt, method_form, while_stmt};
+ghost use Rattle.hl_meaning.specs.Types.{Ty};
+ghost use Rattle.hl_meaning.specs.Views.{plain_arg, plain_args, plain_expr, plain_exprs, plain_function, plain_location, plain_maybe_expr, plain_maybe_location, plain_maybe_stmt, plain_part, plain_root, plain_stmt, plain_stmts, plain_target, plain_ty, plain_variable};
+ghost use Rattle.hl_source.specs.Expressions.{argument_of, arguments, assigned, assigns, copies_out, evaluates, indexes, indexes_if, no_callee, parameters_of, read_if, root_index, starts_with, step_index, target_indexes, value_if, values};
+ghost use Rattle.hl_source.specs.Memory.{load_four, zeros_of};
+ghost use Rattle.hl_source.specs.Offsets.{slot_of};
+ghost use Rattle.hl_source.specs.SourceLane.{value_of};
+ghost use Rattle.hl_source.specs.State.{State, after, goes_with};
+ghost use Rattle.hl_source.specs.Statements.{computes_if, condition, condition_if, declares, does, does_all, returns, tested_turn};
+ghost use Rattle.hl_interpreter.specs.Operands.{interleaved, operands_of, pair_of};
+ghost use Rattle.hl_interpreter.specs.Runs.{Does, Gives, Meets, callees_behind, context_of, form_value, plain_leaving, run_context, state_of};
+
 use crate::atomics::{atomic_original, write_original};
 use crate::buffers::{load_four, store_four};
 use crate::components::{
@@ -16,13 +30,14 @@ use crate::places::{picked_words, slot_of};
 use crate::run::{Context, Run, Stop};
 use crate::state::State;
 use crate::words::holds;
-use base_core::{Sequence, Words};
+use base_core::{NoMemory, Sequence, Words};
 use hl_meaning::{
     Arg, Args, Copying, Expr, Exprs, Form, FunctionDef, HlType, Location, Parameter, PathPart,
     PathParts, Root, Stmt, Stmts, Target,
 };
 use lane_core::{Asked, AtomicKind};
 use sqlite_items::Boxed;
+use std::alloc::Global;
 use std::mem;
 
 /// How control leaves a statement: at its end, by `break`, by `continue`, or by `return` with a value, which has no words
@@ -35,8 +50,14 @@ pub(crate) enum Leaving {
     ByReturn(Words),
 }
 
-/// The arguments of a call: for each the words of the indexes of its place, none where it is a value, and what its
-/// parameter starts with.
+/// An argument: the words of the indexes of its place, none where it is a value, and what its parameter starts with.
+#[derive(Debug, Drop)]
+struct PassedArgument {
+    indexes: Words,
+    start: Words,
+}
+
+/// The arguments of a call, so many indexes as starts.
 #[derive(Debug, Drop)]
 struct Passed {
     indexes: Sequence<Words>,
@@ -45,7 +66,9 @@ struct Passed {
 
 /// The value of an expression.
 #[cycle(running)]
-pub(crate) fn evaluates(context: &Context, expr: &Expr, state: &mut State) -> Result<Words, Stop> {
+pub(crate) fn evaluates(context: &Context, expr: &Expr, state: &mut State) -> Result<Words, Stop>
+    ensures { Gives result (state_of context.now.run.now.replies.now state.new) (evaluates (context_of context.now) (plain_expr expr.now) (state_of context.now.run.now.replies.now state.old)) }
+{
     let alloc = context.run.alloc;
     match &expr.form {
         Form::Literal(word) => {
@@ -86,7 +109,8 @@ pub(crate) fn evaluates(context: &Context, expr: &Expr, state: &mut State) -> Re
         }
         Form::Build(parts) => {
             let values = values(context, parts, state)?;
-            joined(context.run, values.as_slice())
+            let words = joined(alloc, values.as_slice())?;
+            Ok(words)
         }
         Form::Pick { value, parts } => {
             let value = value.get();
@@ -123,7 +147,9 @@ fn binary(
     left: &Expr,
     right: &Expr,
     state: &mut State,
-) -> Result<Words, Stop> {
+) -> Result<Words, Stop>
+    ensures { (ty : Ty) → Gives result (state_of context.now.run.now.replies.now state.new) (form_value (context_of context.now) ty (binary_form op (plain_expr left.now) (plain_expr right.now)) (state_of context.now.run.now.replies.now state.old)) }
+{
     let words = evaluates(context, left, state)?;
     let others = evaluates(context, right, state)?;
     binary_words(
@@ -143,7 +169,9 @@ fn choice(
     consequent: &Expr,
     alternative: &Expr,
     state: &mut State,
-) -> Result<Words, Stop> {
+) -> Result<Words, Stop>
+    ensures { (ty : Ty) → Gives result (state_of context.now.run.now.replies.now state.new) (form_value (context_of context.now) ty (choose_form (plain_expr cond.now) (plain_expr consequent.now) (plain_expr alternative.now)) (state_of context.now.run.now.replies.now state.old)) }
+{
     let truths = evaluates(context, cond, state)?;
     let words = evaluates(context, consequent, state)?;
     let others = evaluates(context, alternative, state)?;
@@ -157,8 +185,10 @@ fn choice(
 }
 
 /// The words of values, one after another.
-fn joined(run: &Run, values: &[Words]) -> Result<Words, Stop> {
-    let mut words = Words::new(run.alloc);
+fn joined(alloc: Global, values: &[Words]) -> Result<Words, NoMemory>
+    ensures { IfOk result (λ words. words ≡ concat values.now) }
+{
+    let mut words = Words::new(alloc);
     for value in values {
         words.extend_from_slice(value.as_slice())?;
     }
@@ -172,7 +202,9 @@ fn read_if(
     place: &Location,
     indexes: &[u32],
     state: &mut State,
-) -> Result<Words, Stop> {
+) -> Result<Words, Stop>
+    ensures { Gives result (state_of context.now.run.now.replies.now state.new) (read_if (context_of context.now) op (plain_location place.now) indexes.now (state_of context.now.run.now.replies.now state.old)) }
+{
     match op {
         Some(_) => read_place(context, place, indexes, state),
         None => Ok(Words::new(context.run.alloc)),
@@ -188,7 +220,9 @@ fn assigned(
     to: &HlType,
     before: &[u32],
     words: Words,
-) -> Result<Words, Stop> {
+) -> Result<Words, Stop>
+    ensures { (s : State) → Gives result s (assigned op (plain_ty common.now) (plain_ty to.now) before.now words s) }
+{
     match op {
         Some(op) => {
             let before = converted(run.alloc, to, common, before)?;
@@ -216,7 +250,9 @@ fn assigns(
     indexes: &[u32],
     words: Words,
     state: &mut State,
-) -> Result<Words, Stop> {
+) -> Result<Words, Stop>
+    ensures { Gives result (state_of context.now.run.now.replies.now state.new) (assigns (context_of context.now) (plain_location to.now) op (plain_ty common.now) old indexes.now words (state_of context.now.run.now.replies.now state.old)) }
+{
     let before = read_if(context, op, to, indexes, state)?;
     let written = assigned(context.run, op, common, &to.ty, before.as_slice(), words)?;
     write_place(context, to, indexes, written.as_slice(), state)?;
@@ -225,20 +261,33 @@ fn assigns(
 
 /// The indexes of a place, in order, the one of an element of a buffer first. Each is one word.
 #[cycle(running)]
-fn indexes(context: &Context, place: &Location, state: &mut State) -> Result<Words, Stop> {
+fn indexes(context: &Context, place: &Location, state: &mut State) -> Result<Words, Stop>
+    ensures { Gives result (state_of context.now.run.now.replies.now state.new) (indexes (context_of context.now) (plain_location place.now) (state_of context.now.run.now.replies.now state.old)) }
+{
     let mut indexes = root_index(context, &place.root, state)?;
     for part in place.parts.as_slice() {
-        if let PathPart::Index(index) = part {
-            let words = evaluates(context, index.get(), state)?;
-            indexes.extend_from_slice(words.as_slice())?;
-        }
+        let words = step_index(context, part, state)?;
+        indexes.extend_from_slice(words.as_slice())?;
     }
     Ok(indexes)
 }
 
+/// The index of a step.
+#[cycle(running)]
+fn step_index(context: &Context, part: &PathPart, state: &mut State) -> Result<Words, Stop>
+    ensures { Gives result (state_of context.now.run.now.replies.now state.new) (step_index (context_of context.now) (plain_part part.now) (state_of context.now.run.now.replies.now state.old)) }
+{
+    match part {
+        PathPart::Index(index) => evaluates(context, index.get(), state),
+        PathPart::Member(_) | PathPart::Swizzle(_) => Ok(Words::new(context.run.alloc)),
+    }
+}
+
 /// The index of an element of a buffer.
 #[cycle(running)]
-fn root_index(context: &Context, root: &Root, state: &mut State) -> Result<Words, Stop> {
+fn root_index(context: &Context, root: &Root, state: &mut State) -> Result<Words, Stop>
+    ensures { Gives result (state_of context.now.run.now.replies.now state.new) (root_index (context_of context.now) (plain_root root.now) (state_of context.now.run.now.replies.now state.old)) }
+{
     match root {
         Root::Element { index, .. } => evaluates(context, index.get(), state),
         Root::Variable(_) | Root::Constant(_) | Root::Shared(_) => {
@@ -249,7 +298,9 @@ fn root_index(context: &Context, root: &Root, state: &mut State) -> Result<Words
 
 /// The values of expressions, in order.
 #[cycle(running)]
-fn values(context: &Context, exprs: &Exprs, state: &mut State) -> Result<Sequence<Words>, Stop> {
+fn values(context: &Context, exprs: &Exprs, state: &mut State) -> Result<Sequence<Words>, Stop>
+    ensures { Meets (λ list. list) result (state_of context.now.run.now.replies.now state.new) (values (context_of context.now) (plain_exprs exprs.now) (state_of context.now.run.now.replies.now state.old)) }
+{
     let mut values = Sequence::new(context.run.alloc);
     for expr in exprs.as_slice() {
         let words = evaluates(context, expr, state)?;
@@ -267,7 +318,9 @@ fn method(
     address: &Expr,
     value: &Option<Boxed<Expr>>,
     state: &mut State,
-) -> Result<Words, Stop> {
+) -> Result<Words, Stop>
+    ensures { (ty : Ty) → Gives result (state_of context.now.run.now.replies.now state.new) (form_value (context_of context.now) ty (method_form resource count (plain_expr address.now) (plain_maybe_expr value.now)) (state_of context.now.run.now.replies.now state.old)) }
+{
     let run = context.run;
     let at = evaluates(context, address, state)?;
     match value {
@@ -288,7 +341,10 @@ fn load_method(
     count: u8,
     at: &[u32],
     state: &mut State,
-) -> Result<Words, Stop> {
+) -> Result<Words, Stop>
+    ensures { Gives result (state_of run.now.replies.now state.new)
+        (after (load_four (slot_of (run_context run.now) resource) (slice_index at.now 0) 0 (state_of run.now.replies.now state.old)) (λ words s. goes_with (take count words) s)) }
+{
     let slot = slot_of(run, resource);
     let words = load_four(run, slot, word_at(at, 0), 0, state)?;
     let first = first_words(run.alloc, words.as_slice(), count as usize)?;
@@ -305,7 +361,9 @@ fn atomic(
     value: &Expr,
     original: &Option<Location>,
     state: &mut State,
-) -> Result<Words, Stop> {
+) -> Result<Words, Stop>
+    ensures { (ty : Ty) → Gives result (state_of context.now.run.now.replies.now state.new) (form_value (context_of context.now) ty (atomic_form (plain_target target.now) kind (plain_maybe_expr compare.now) (plain_expr value.now) (plain_maybe_location original.now)) (state_of context.now.run.now.replies.now state.old)) }
+{
     let at = target_indexes(context, target, state)?;
     let compared = value_if(context, compare, state)?;
     let words = evaluates(context, value, state)?;
@@ -319,7 +377,9 @@ fn atomic(
 
 /// The indexes of the place, or the address.
 #[cycle(running)]
-fn target_indexes(context: &Context, target: &Target, state: &mut State) -> Result<Words, Stop> {
+fn target_indexes(context: &Context, target: &Target, state: &mut State) -> Result<Words, Stop>
+    ensures { Gives result (state_of context.now.run.now.replies.now state.new) (target_indexes (context_of context.now) (plain_target target.now) (state_of context.now.run.now.replies.now state.old)) }
+{
     match target {
         Target::Place(place) => indexes(context, place, state),
         Target::Bytes { address, .. } => evaluates(context, address.get(), state),
@@ -332,7 +392,9 @@ fn value_if(
     context: &Context,
     value: &Option<Boxed<Expr>>,
     state: &mut State,
-) -> Result<Words, Stop> {
+) -> Result<Words, Stop>
+    ensures { Gives result (state_of context.now.run.now.replies.now state.new) (value_if (context_of context.now) (plain_maybe_expr value.now) (state_of context.now.run.now.replies.now state.old)) }
+{
     match value {
         Some(value) => evaluates(context, value.get(), state),
         None => Ok(Words::new(context.run.alloc)),
@@ -345,7 +407,9 @@ fn indexes_if(
     context: &Context,
     place: &Option<Location>,
     state: &mut State,
-) -> Result<Words, Stop> {
+) -> Result<Words, Stop>
+    ensures { Gives result (state_of context.now.run.now.replies.now state.new) (indexes_if (context_of context.now) (plain_maybe_location place.now) (state_of context.now.run.now.replies.now state.old)) }
+{
     match place {
         Some(place) => indexes(context, place, state),
         None => Ok(Words::new(context.run.alloc)),
@@ -360,7 +424,9 @@ fn starts_with(
     place: &Location,
     indexes: &[u32],
     state: &mut State,
-) -> Result<Words, Stop> {
+) -> Result<Words, Stop>
+    ensures { Gives result (state_of context.now.run.now.replies.now state.new) (starts_with (context_of context.now) copying (plain_location place.now) indexes.now (state_of context.now.run.now.replies.now state.old)) }
+{
     match copying {
         Copying::CopyOut => {
             let count = words_of(context.run.program, &place.ty)?;
@@ -372,7 +438,9 @@ fn starts_with(
 }
 
 /// The parameters of the function of a number.
-fn parameters_of<'a>(context: &Context<'a>, function: u32) -> &'a [Parameter] {
+fn parameters_of<'a>(context: &Context<'a>, function: u32) -> &'a [Parameter]
+    ensures { result.now ≡ parameters_of (context_of context.now) function }
+{
     match context.callees.get(function as usize) {
         Some(function) => function.parameters.as_slice(),
         None => &[],
@@ -386,13 +454,21 @@ fn arguments(
     parameters: &[Parameter],
     args: &Args,
     state: &mut State,
-) -> Result<Passed, Stop> {
+) -> Result<Passed, Stop>
+    ensures { Meets operands_of result (state_of context.now.run.now.replies.now state.new) (arguments (context_of context.now) (plain_args args.now) parameters.now (state_of context.now.run.now.replies.now state.old)) }
+{
     let mut passed = Passed {
         indexes: Sequence::new(context.run.alloc),
         starts: Sequence::new(context.run.alloc),
     };
-    for (arg, parameter) in args.as_slice().iter().zip(parameters) {
-        argument(context, parameter.copying, arg, &mut passed, state)?;
+    for (at, arg) in args.as_slice().iter().enumerate() {
+        if at >= parameters.len() {
+            return Ok(passed);
+        }
+        let PassedArgument { indexes, start } =
+            argument(context, parameters[at].copying, arg, state)?;
+        passed.indexes.push(indexes)?;
+        passed.starts.push(start)?;
     }
     Ok(passed)
 }
@@ -404,22 +480,20 @@ fn argument(
     context: &Context,
     copying: Copying,
     arg: &Arg,
-    passed: &mut Passed,
     state: &mut State,
-) -> Result<(), Stop> {
+) -> Result<PassedArgument, Stop>
+    ensures { Meets pair_of result (state_of context.now.run.now.replies.now state.new) (argument_of (context_of context.now) (plain_arg arg.now) copying (state_of context.now.run.now.replies.now state.old)) }
+{
     match arg {
         Arg::Value(value) => {
-            let words = evaluates(context, value, state)?;
-            passed.indexes.push(Words::new(context.run.alloc))?;
-            passed.starts.push(words)?;
-            Ok(())
+            let start = evaluates(context, value, state)?;
+            let indexes = Words::new(context.run.alloc);
+            Ok(PassedArgument { indexes, start })
         }
         Arg::Place(place) => {
             let indexes = indexes(context, place, state)?;
             let start = starts_with(context, copying, place, indexes.as_slice(), state)?;
-            passed.indexes.push(indexes)?;
-            passed.starts.push(start)?;
-            Ok(())
+            Ok(PassedArgument { indexes, start })
         }
     }
 }
@@ -431,7 +505,10 @@ fn copies_out(
     indexes: &[Words],
     parameters: &[Words],
     state: &mut State,
-) -> Result<(), Stop> {
+) -> Result<(), Stop>
+    ensures { (starts : List (List ℕ)) → length starts ≡ length indexes.now
+        → Does result (state_of context.now.run.now.replies.now state.new) (copies_out (context_of context.now) (plain_args args.now) (interleaved indexes.now starts) parameters.now (state_of context.now.run.now.replies.now state.old)) }
+{
     for (at, arg) in args.as_slice().iter().enumerate() {
         if at >= indexes.len() || at >= parameters.len() {
             return Ok(());
@@ -451,7 +528,9 @@ fn calls(
     function: u32,
     args: &Args,
     state: &mut State,
-) -> Result<Words, Stop> {
+) -> Result<Words, Stop>
+    ensures { (ty : Ty) → Gives result (state_of context.now.run.now.replies.now state.new) (form_value (context_of context.now) ty (call_form function (plain_args args.now)) (state_of context.now.run.now.replies.now state.old)) }
+{
     let parameters = parameters_of(context, function);
     let Passed { indexes, starts } = arguments(context, parameters, args, state)?;
     let own = mem::replace(&mut state.variables, starts.into_vec());
@@ -461,14 +540,27 @@ fn calls(
     Ok(result)
 }
 
+/// Adds a variable.
+fn push_variable(words: Words, state: &mut State) -> Result<(), NoMemory>
+    ensures variables { OnOk result (state.new.variables.items ≡ state.old.variables.items ++ words ∷ []) }
+    ensures events { state.new.events ≡ state.old.events }
+{
+    state.variables.push(words)?;
+    Ok(())
+}
+
 /// Adds the zeros of the variables of a function that aren't parameters.
-fn add_variables(run: &Run, function: &FunctionDef, state: &mut State) -> Result<(), Stop> {
+fn add_variables(run: &Run, function: &FunctionDef, state: &mut State) -> Result<(), NoMemory>
+    ensures variables { OnOk result (state.new.variables.items
+        ≡ state.old.variables.items ++ map (λ v. zeros_of (run_context run.now) v.ty) (drop (length function.now.parameters) (map plain_variable function.now.variables))) }
+    ensures events { state.new.events ≡ state.old.events }
+{
     let parameters = function.parameters.len();
     for (at, variable) in function.variables.as_slice().iter().enumerate() {
         if at >= parameters {
             let count = words_of(run.program, &variable.ty)?;
             let words = zeros(run.alloc, count)?;
-            state.variables.push(words)?;
+            push_variable(words, state)?;
         }
     }
     Ok(())
@@ -482,7 +574,11 @@ pub(crate) fn runs(
     functions: &[FunctionDef],
     number: u32,
     state: &mut State,
-) -> Result<Words, Stop> {
+) -> Result<Words, Stop>
+    ensures { Gives result (state_of run.now.replies.now state.new)
+        (slice_index_or (callees_behind run.now [] [] (map plain_function functions.now)) number no_callee
+        state.old.variables.items (state_of run.now.replies.now state.old).exchange) }
+{
     let number = number as usize;
     if number >= functions.len() {
         return Ok(Words::new(run.alloc));
@@ -499,7 +595,9 @@ pub(crate) fn runs(
 }
 
 /// The value that a body is left with.
-fn value_of(run: &Run, leaving: Leaving) -> Words {
+fn value_of(run: &Run, leaving: Leaving) -> Words
+    ensures { result ≡ value_of (plain_leaving leaving) }
+{
     match leaving {
         Leaving::ByReturn(value) => value,
         Leaving::AtEnd | Leaving::ByBreak | Leaving::ByContinue => Words::new(run.alloc),
@@ -508,7 +606,9 @@ fn value_of(run: &Run, leaving: Leaving) -> Words {
 
 /// What a statement does.
 #[cycle(running)]
-fn does(context: &Context, stmt: &Stmt, state: &mut State) -> Result<Leaving, Stop> {
+fn does(context: &Context, stmt: &Stmt, state: &mut State) -> Result<Leaving, Stop>
+    ensures { Meets plain_leaving result (state_of context.now.run.now.replies.now state.new) (does (context_of context.now) context.now.run.now.turns (plain_stmt stmt.now) (state_of context.now.run.now.replies.now state.old)) }
+{
     match stmt {
         Stmt::Block(body) => does_all(context, body, state),
         Stmt::Local { variable, init } => declares(context, *variable, init, state),
@@ -533,7 +633,9 @@ fn does(context: &Context, stmt: &Stmt, state: &mut State) -> Result<Leaving, St
 
 /// Statements one after another.
 #[cycle(running)]
-fn does_all(context: &Context, stmts: &Stmts, state: &mut State) -> Result<Leaving, Stop> {
+fn does_all(context: &Context, stmts: &Stmts, state: &mut State) -> Result<Leaving, Stop>
+    ensures { Meets plain_leaving result (state_of context.now.run.now.replies.now state.new) (does_all (context_of context.now) context.now.run.now.turns (plain_stmts stmts.now) (state_of context.now.run.now.replies.now state.old)) }
+{
     for stmt in stmts.as_slice() {
         match does(context, stmt, state)? {
             Leaving::AtEnd => {}
@@ -545,7 +647,9 @@ fn does_all(context: &Context, stmts: &Stmts, state: &mut State) -> Result<Leavi
 
 /// The truth value of a condition.
 #[cycle(running)]
-fn condition(context: &Context, cond: &Expr, state: &mut State) -> Result<bool, Stop> {
+fn condition(context: &Context, cond: &Expr, state: &mut State) -> Result<bool, Stop>
+    ensures { Meets (λ truth. truth) result (state_of context.now.run.now.replies.now state.new) (condition (context_of context.now) (plain_expr cond.now) (state_of context.now.run.now.replies.now state.old)) }
+{
     let words = evaluates(context, cond, state)?;
     Ok(holds(word_at(words.as_slice(), 0)))
 }
@@ -556,7 +660,9 @@ fn condition_if(
     context: &Context,
     cond: &Option<Expr>,
     state: &mut State,
-) -> Result<bool, Stop> {
+) -> Result<bool, Stop>
+    ensures { Meets (λ truth. truth) result (state_of context.now.run.now.replies.now state.new) (condition_if (context_of context.now) (option_map plain_expr cond.now) (state_of context.now.run.now.replies.now state.old)) }
+{
     match cond {
         Some(cond) => condition(context, cond, state),
         None => Ok(true),
@@ -565,7 +671,9 @@ fn condition_if(
 
 /// A value that isn't used is computed all the same.
 #[cycle(running)]
-fn computes_if(context: &Context, value: &Option<Expr>, state: &mut State) -> Result<(), Stop> {
+fn computes_if(context: &Context, value: &Option<Expr>, state: &mut State) -> Result<(), Stop>
+    ensures { Meets (λ _. plain_leaving Leaving.AtEnd) result (state_of context.now.run.now.replies.now state.new) (computes_if (context_of context.now) (option_map plain_expr value.now) (state_of context.now.run.now.replies.now state.old)) }
+{
     match value {
         Some(value) => {
             evaluates(context, value, state)?;
@@ -582,7 +690,9 @@ fn declares(
     variable: u32,
     init: &Option<Expr>,
     state: &mut State,
-) -> Result<Leaving, Stop> {
+) -> Result<Leaving, Stop>
+    ensures { Meets plain_leaving result (state_of context.now.run.now.replies.now state.new) (declares (context_of context.now) variable (option_map plain_expr init.now) (state_of context.now.run.now.replies.now state.old)) }
+{
     match init {
         Some(init) => {
             let words = evaluates(context, init, state)?;
@@ -590,14 +700,17 @@ fn declares(
             Ok(Leaving::AtEnd)
         }
         None => {
-            clear_variable(context.run, variable, state)?;
+            clear_variable(context.run.alloc, variable, state)?;
             Ok(Leaving::AtEnd)
         }
     }
 }
 
 /// A variable gets these words.
-fn set_variable(variable: u32, words: Words, state: &mut State) {
+fn set_variable(variable: u32, words: Words, state: &mut State)
+    ensures variables { state.new.variables.items ≡ slice_set state.old.variables.items variable words }
+    ensures events { state.new.events ≡ state.old.events }
+{
     let number = variable as usize;
     if number < state.variables.len() {
         state.variables[number] = words;
@@ -605,11 +718,15 @@ fn set_variable(variable: u32, words: Words, state: &mut State) {
 }
 
 /// A variable gets zeros.
-fn clear_variable(run: &Run, variable: u32, state: &mut State) -> Result<(), Stop> {
+fn clear_variable(alloc: Global, variable: u32, state: &mut State) -> Result<(), NoMemory>
+    ensures variables { OnOk result (state.new.variables.items
+        ≡ slice_set state.old.variables.items variable (map (λ _. 0) (unwrap_or (slice_get state.old.variables.items variable) []))) }
+    ensures events { state.new.events ≡ state.old.events }
+{
     let number = variable as usize;
     if number < state.variables.len() {
         let count = state.variables[number].len();
-        state.variables[number] = zeros(run.alloc, count as u32)?;
+        state.variables[number] = zeros(alloc, count as u32)?;
     }
     Ok(())
 }
@@ -620,7 +737,9 @@ fn returns(
     context: &Context,
     value: &Option<Expr>,
     state: &mut State,
-) -> Result<Leaving, Stop> {
+) -> Result<Leaving, Stop>
+    ensures { Meets plain_leaving result (state_of context.now.run.now.replies.now state.new) (returns (context_of context.now) (option_map plain_expr value.now) (state_of context.now.run.now.replies.now state.old)) }
+{
     match value {
         Some(value) => {
             let words = evaluates(context, value, state)?;
@@ -638,7 +757,9 @@ fn branches(
     consequent: &Stmt,
     alternative: &Option<Boxed<Stmt>>,
     state: &mut State,
-) -> Result<Leaving, Stop> {
+) -> Result<Leaving, Stop>
+    ensures { Meets plain_leaving result (state_of context.now.run.now.replies.now state.new) (does (context_of context.now) context.now.run.now.turns (if_stmt (plain_expr cond.now) (plain_stmt consequent.now) (plain_maybe_stmt alternative.now)) (state_of context.now.run.now.replies.now state.old)) }
+{
     if condition(context, cond, state)? {
         return does(context, consequent, state);
     }
@@ -657,7 +778,9 @@ fn for_loop(
     step: &Option<Expr>,
     body: &Stmt,
     state: &mut State,
-) -> Result<Leaving, Stop> {
+) -> Result<Leaving, Stop>
+    ensures { Meets plain_leaving result (state_of context.now.run.now.replies.now state.new) (does (context_of context.now) context.now.run.now.turns (for_stmt (plain_stmts init.now) (option_map plain_expr cond.now) (option_map plain_expr step.now) (plain_stmt body.now)) (state_of context.now.run.now.replies.now state.old)) }
+{
     match does_all(context, init, state)? {
         Leaving::AtEnd => {}
         leaving => return Ok(leaving),
@@ -680,7 +803,9 @@ fn for_turn(
     step: &Option<Expr>,
     body: &Stmt,
     state: &mut State,
-) -> Result<Leaving, Stop> {
+) -> Result<Leaving, Stop>
+    ensures { Meets plain_leaving result (state_of context.now.run.now.replies.now state.new) (tested_turn (context_of context.now) (option_map plain_expr cond.now) (λ s. does (context_of context.now) context.now.run.now.turns (plain_stmt body.now) s) (option_map plain_expr step.now) (state_of context.now.run.now.replies.now state.old)) }
+{
     if !condition_if(context, cond, state)? {
         return Ok(Leaving::ByBreak);
     }
@@ -700,7 +825,9 @@ fn while_loop(
     cond: &Expr,
     body: &Stmt,
     state: &mut State,
-) -> Result<Leaving, Stop> {
+) -> Result<Leaving, Stop>
+    ensures { Meets plain_leaving result (state_of context.now.run.now.replies.now state.new) (does (context_of context.now) context.now.run.now.turns (while_stmt (plain_expr cond.now) (plain_stmt body.now)) (state_of context.now.run.now.replies.now state.old)) }
+{
     for _turn in 0..context.run.turns {
         if !condition(context, cond, state)? {
             return Ok(Leaving::AtEnd);
@@ -721,7 +848,9 @@ fn do_loop(
     body: &Stmt,
     cond: &Expr,
     state: &mut State,
-) -> Result<Leaving, Stop> {
+) -> Result<Leaving, Stop>
+    ensures { Meets plain_leaving result (state_of context.now.run.now.replies.now state.new) (does (context_of context.now) context.now.run.now.turns (do_stmt (plain_stmt body.now) (plain_expr cond.now)) (state_of context.now.run.now.replies.now state.old)) }
+{
     for _turn in 0..context.run.turns {
         match does(context, body, state)? {
             Leaving::AtEnd | Leaving::ByContinue => {}

@@ -1,28 +1,43 @@
 //! What the intrinsic functions do with their arguments.
 
+ghost use Rattle.std.specs.Prelude.{◌≡◌, [], ◌∷◌, IfOk, map};
+ghost use Rattle.lane_core.specs.declared.event.Event.TheVariants.{Barrier};
+ghost use Rattle.hl_meaning.specs.Views.{plain_ty};
+ghost use Rattle.hl_source.specs.Intrinsics.{absolute, clamped, greater, lesser, wave_words, work_of, worked};
+ghost use Rattle.hl_source.specs.Operations.{map_2, map_3};
+ghost use Rattle.hl_source.specs.State.{State, asks, no_value};
+ghost use Rattle.hl_interpreter.specs.HeldWorks.{plain_judgement, plain_one, plain_told, plain_two, plain_work};
+ghost use Rattle.hl_interpreter.specs.Runs.{Gives, lane_of, run_context, state_of};
+
 use crate::components::{one_word, word_at};
 use crate::operations::{component_kind, less, word_as};
-use crate::run::{Run, Stop};
+use crate::run::{LanePlace, Run, Stop};
 use crate::state::{State, asks, asks_four, asks_word};
-use crate::words::{first_bit_low, holds, signed_less, truth};
-use crate::works::{Work, wave_kind, work_of};
+use crate::words::{first_bit_low, holds, truth};
+use crate::works::{Judgement, OneWork, Told, TwoWork, Work, wave_kind, work_of};
 use base_core::{NoMemory, Words};
 use hl_meaning::{HlType, Kind};
 use lane_core::{Event, WaveKind};
 use std::alloc::Global;
 
 /// The lesser of two words of a kind.
-fn lesser(kind: Kind, left: u32, right: u32) -> u32 {
+fn lesser(kind: Kind, left: u32, right: u32) -> u32
+    ensures { result ≡ lesser kind left right }
+{
     if less(kind, right, left) { right } else { left }
 }
 
 /// The greater of two words of a kind.
-fn greater(kind: Kind, left: u32, right: u32) -> u32 {
+fn greater(kind: Kind, left: u32, right: u32) -> u32
+    ensures { result ≡ greater kind left right }
+{
     if less(kind, left, right) { right } else { left }
 }
 
 /// For int the greater of the word and 0 less the word, which wraps; for uint the word.
-fn absolute(kind: Kind, word: u32) -> u32 {
+fn absolute(kind: Kind, word: u32) -> u32
+    ensures { result ≡ absolute kind word }
+{
     match kind {
         Kind::Int => greater(kind, word, 0u32.wrapping_sub(word)),
         Kind::Bool | Kind::Uint => word,
@@ -30,26 +45,32 @@ fn absolute(kind: Kind, word: u32) -> u32 {
 }
 
 /// What a function of one argument computes of a word.
-fn one_of(work: Work, kind: Kind, word: u32) -> u32 {
+fn one_of(work: OneWork, kind: Kind, word: u32) -> u32
+    ensures { result ≡ plain_one work kind word }
+{
     match work {
-        Work::Absolute => absolute(kind, word),
-        Work::CountBits => word.count_ones(),
-        Work::ReverseBits => word.reverse_bits(),
-        Work::FirstBitLow => first_bit_low(word),
-        _ => word,
+        OneWork::Absolute => absolute(kind, word),
+        OneWork::CountBits => word.count_ones(),
+        OneWork::ReverseBits => word.reverse_bits(),
+        OneWork::FirstBitLow => first_bit_low(word),
+        OneWork::SameBits => word,
     }
 }
 
 /// What `min` or `max` computes of two words.
-fn two_of(work: Work, kind: Kind, left: u32, right: u32) -> u32 {
+fn two_of(work: TwoWork, kind: Kind, left: u32, right: u32) -> u32
+    ensures { result ≡ plain_two work kind left right }
+{
     match work {
-        Work::Greater => greater(kind, left, right),
-        _ => lesser(kind, left, right),
+        TwoWork::Lesser => lesser(kind, left, right),
+        TwoWork::Greater => greater(kind, left, right),
     }
 }
 
 /// Each word of an argument by itself.
-fn from_one(alloc: Global, work: Work, kind: Kind, words: &[u32]) -> Result<Words, NoMemory> {
+fn from_one(alloc: Global, work: OneWork, kind: Kind, words: &[u32]) -> Result<Words, NoMemory>
+    ensures { IfOk result (λ values. values ≡ map (plain_one work kind) words.now) }
+{
     let mut result = Words::new(alloc);
     for word in words {
         result.push(one_of(work, kind, *word))?;
@@ -60,14 +81,19 @@ fn from_one(alloc: Global, work: Work, kind: Kind, words: &[u32]) -> Result<Word
 /// Each word of an argument with that of another.
 fn from_two(
     alloc: Global,
-    work: Work,
+    work: TwoWork,
     kind: Kind,
     left: &[u32],
     right: &[u32],
-) -> Result<Words, NoMemory> {
+) -> Result<Words, NoMemory>
+    ensures { IfOk result (λ values. values ≡ map_2 (plain_two work kind) left.now right.now) }
+{
     let mut result = Words::new(alloc);
-    for (one, other) in left.iter().zip(right) {
-        result.push(two_of(work, kind, *one, *other))?;
+    for (at, word) in left.iter().enumerate() {
+        if at >= right.len() {
+            return Ok(result);
+        }
+        result.push(two_of(work, kind, *word, right[at]))?;
     }
     Ok(result)
 }
@@ -79,7 +105,9 @@ fn clamped(
     words: &[u32],
     low: &[u32],
     high: &[u32],
-) -> Result<Words, NoMemory> {
+) -> Result<Words, NoMemory>
+    ensures { IfOk result (λ values. values ≡ map_3 (clamped kind) words.now low.now high.now) }
+{
     let mut result = Words::new(alloc);
     for (at, word) in words.iter().enumerate() {
         if at >= low.len() || at >= high.len() {
@@ -91,7 +119,9 @@ fn clamped(
 }
 
 /// A barrier of a mode, which gives no value.
-fn barrier(run: &Run, mode: u8, state: &mut State) -> Result<Words, Stop> {
+fn barrier(run: &Run, mode: u8, state: &mut State) -> Result<Words, Stop>
+    ensures { Gives result (state_of run.now.replies.now state.new) (no_value (asks (Barrier mode) (state_of run.now.replies.now state.old))) }
+{
     asks(run, Event::Barrier { mode }, state)?;
     Ok(Words::new(run.alloc))
 }
@@ -107,7 +137,9 @@ fn wave_words(
     kind: Kind,
     words: &[u32],
     state: &mut State,
-) -> Result<Words, Stop> {
+) -> Result<Words, Stop>
+    ensures { Gives result (state_of run.now.replies.now state.new) (wave_words wave lane kind words.now (state_of run.now.replies.now state.old)) }
+{
     let mut found = Words::new(run.alloc);
     for operand in words {
         let event = Event::Wave {
@@ -121,19 +153,37 @@ fn wave_words(
     Ok(found)
 }
 
+/// How all words of an argument are judged together.
+fn judges(judgement: Judgement, words: &[u32]) -> bool
+    ensures { result ≡ plain_judgement judgement words.now }
+{
+    match judgement {
+        Judgement::Any => words.iter().any(|word| holds(*word)),
+        Judgement::All => words.iter().all(|word| holds(*word)),
+    }
+}
+
+/// What is told of a lane.
+fn told_of(told: Told, lane: &LanePlace) -> u32
+    ensures { result ≡ plain_told told (lane_of lane.now) }
+{
+    match told {
+        Told::LaneIndex => lane.lane_index,
+        Told::WaveSize => lane.wave_size,
+    }
+}
+
 /// What a function without an argument does.
-fn alone(run: &Run, work: Work, kind: Kind, state: &mut State) -> Result<Words, Stop> {
+fn alone(run: &Run, work: Work, ty: &HlType, state: &mut State) -> Result<Words, Stop>
+    ensures { Gives result (state_of run.now.replies.now state.new) (worked (run_context run.now) (plain_work work) (plain_ty ty.now) [] (state_of run.now.replies.now state.old)) }
+{
     match work {
-        Work::LaneIndex => {
-            let words = one_word(run.alloc, run.lane.lane_index)?;
-            Ok(words)
-        }
-        Work::LaneCount => {
-            let words = one_word(run.alloc, run.lane.wave_size)?;
+        Work::Tell(told) => {
+            let words = one_word(run.alloc, told_of(told, run.lane))?;
             Ok(words)
         }
         Work::Barrier(mode) => barrier(run, mode, state),
-        Work::WaveAlone(wave) => wave_words(run, wave, 0, kind, &[0], state),
+        Work::WaveAlone(wave) => wave_words(run, wave, 0, component_kind(ty), &[0], state),
         _ => Ok(Words::new(run.alloc)),
     }
 }
@@ -142,30 +192,25 @@ fn alone(run: &Run, work: Work, kind: Kind, state: &mut State) -> Result<Words, 
 fn with_one(
     run: &Run,
     work: Work,
-    kind: Kind,
+    ty: &HlType,
     words: &[u32],
     state: &mut State,
-) -> Result<Words, Stop> {
+) -> Result<Words, Stop>
+    ensures { Gives result (state_of run.now.replies.now state.new) (worked (run_context run.now) (plain_work work) (plain_ty ty.now) (words.now ∷ []) (state_of run.now.replies.now state.old)) }
+{
     match work {
-        Work::Absolute
-        | Work::CountBits
-        | Work::ReverseBits
-        | Work::FirstBitLow
-        | Work::SameBits => {
-            let words = from_one(run.alloc, work, kind, words)?;
+        Work::One(one) => {
+            let words = from_one(run.alloc, one, component_kind(ty), words)?;
             Ok(words)
         }
-        Work::Any => {
-            let any = words.iter().any(|word| holds(*word));
-            let words = one_word(run.alloc, truth(any))?;
+        Work::Judge(judgement) => {
+            let words = one_word(run.alloc, truth(judges(judgement, words)))?;
             Ok(words)
         }
-        Work::All => {
-            let all = words.iter().all(|word| holds(*word));
-            let words = one_word(run.alloc, truth(all))?;
-            Ok(words)
+        Work::Wave(wave) => {
+            let kind = component_kind(ty);
+            wave_words(run, wave_kind(wave, kind), 0, kind, words, state)
         }
-        Work::Wave(wave) => wave_words(run, wave_kind(wave, kind), 0, kind, words, state),
         Work::WaveFour(wave) => {
             let event = Event::Wave {
                 kind: wave,
@@ -182,17 +227,22 @@ fn with_one(
 fn with_two(
     run: &Run,
     work: Work,
-    kind: Kind,
+    ty: &HlType,
     words: &[u32],
     others: &[u32],
     state: &mut State,
-) -> Result<Words, Stop> {
+) -> Result<Words, Stop>
+    ensures { Gives result (state_of run.now.replies.now state.new) (worked (run_context run.now) (plain_work work) (plain_ty ty.now) (words.now ∷ others.now ∷ []) (state_of run.now.replies.now state.old)) }
+{
     match work {
-        Work::Lesser | Work::Greater => {
-            let words = from_two(run.alloc, work, kind, words, others)?;
+        Work::Two(two) => {
+            let words = from_two(run.alloc, two, component_kind(ty), words, others)?;
             Ok(words)
         }
-        Work::WaveAt(wave) => wave_words(run, wave, word_at(others, 0), kind, words, state),
+        Work::WaveAt(wave) => {
+            let lane = word_at(others, 0);
+            wave_words(run, wave, lane, component_kind(ty), words, state)
+        }
         _ => Ok(Words::new(run.alloc)),
     }
 }
@@ -201,14 +251,16 @@ fn with_two(
 fn with_three(
     run: &Run,
     work: Work,
-    kind: Kind,
+    ty: &HlType,
     words: &[u32],
     low: &[u32],
     high: &[u32],
-) -> Result<Words, Stop> {
+) -> Result<Words, Stop>
+    ensures { (s : State) → Gives result s (worked (run_context run.now) (plain_work work) (plain_ty ty.now) (words.now ∷ low.now ∷ high.now ∷ []) s) }
+{
     match work {
         Work::Clamp => {
-            let words = clamped(run.alloc, kind, words, low, high)?;
+            let words = clamped(run.alloc, component_kind(ty), words, low, high)?;
             Ok(words)
         }
         _ => Ok(Words::new(run.alloc)),
@@ -222,16 +274,17 @@ pub(crate) fn worked(
     ty: &HlType,
     arguments: &[Words],
     state: &mut State,
-) -> Result<Words, Stop> {
+) -> Result<Words, Stop>
+    ensures { Gives result (state_of run.now.replies.now state.new) (worked (run_context run.now) (work_of number) (plain_ty ty.now) arguments.now (state_of run.now.replies.now state.old)) }
+{
     let work = work_of(number);
-    let kind = component_kind(ty);
     match arguments {
-        [] => alone(run, work, kind, state),
-        [words] => with_one(run, work, kind, words.as_slice(), state),
+        [] => alone(run, work, ty, state),
+        [words] => with_one(run, work, ty, words.as_slice(), state),
         [words, others] => with_two(
             run,
             work,
-            kind,
+            ty,
             words.as_slice(),
             others.as_slice(),
             state,
@@ -239,7 +292,7 @@ pub(crate) fn worked(
         [words, low, high] => with_three(
             run,
             work,
-            kind,
+            ty,
             words.as_slice(),
             low.as_slice(),
             high.as_slice(),

@@ -1,5 +1,9 @@
 //! How many words types have, and of which kinds they are.
 
+ghost use Rattle.std.specs.Prelude.{◌≡◌, ◌*◌, ◌++◌, [], IfOk, OnOk, replicate, slice_get, unwrap_or};
+ghost use Rattle.hl_meaning.specs.Layout.{kinds_in, kinds_of, repeated, struct_kinds_after, words_of};
+ghost use Rattle.hl_meaning.specs.Views.{plain_structs, plain_ty};
+
 use base_core::{NoMemory, Sequence};
 use hl_meaning::{HlType, Kind, Program, StructDef};
 use std::alloc::Global;
@@ -8,14 +12,16 @@ use std::alloc::Global;
 ///
 /// # Errors
 /// `NoMemory` where they are too many to be held.
-pub(crate) fn words_of(program: &Program, ty: &HlType) -> Result<u32, NoMemory> {
+pub(crate) fn words_of(program: &Program, ty: &HlType) -> Result<u32, NoMemory>
+    ensures { IfOk result (λ words. words ≡ words_of (plain_structs program.now.structs) (plain_ty ty.now)) }
+{
     match ty {
         HlType::Void => Ok(0),
         HlType::Scalar(_) => Ok(1),
         HlType::Vector(_, size) => Ok(u32::from(*size)),
         HlType::Array(element, length) => {
             let words = words_of(program, element.get())?;
-            product(words, *length)
+            product(*length, words)
         }
         HlType::Struct(number) => match program.structs.get(*number as usize) {
             Some(StructDef { words, .. }) => Ok(*words),
@@ -25,8 +31,10 @@ pub(crate) fn words_of(program: &Program, ty: &HlType) -> Result<u32, NoMemory> 
 }
 
 /// A product, where it fits a word.
-fn product(words: u32, length: u32) -> Result<u32, NoMemory> {
-    words.checked_mul(length).ok_or(NoMemory)
+fn product(length: u32, words: u32) -> Result<u32, NoMemory>
+    ensures { IfOk result (λ product. product ≡ length * words) }
+{
+    length.checked_mul(words).ok_or(NoMemory)
 }
 
 /// The kind of each word of a type, in order.
@@ -37,7 +45,9 @@ pub(crate) fn kinds_of(
     alloc: Global,
     program: &Program,
     ty: &HlType,
-) -> Result<Sequence<Kind>, NoMemory> {
+) -> Result<Sequence<Kind>, NoMemory>
+    ensures { IfOk result (λ kinds. kinds ≡ kinds_of (plain_structs program.now.structs) (plain_ty ty.now)) }
+{
     let mut kinds = Sequence::new(alloc);
     add_kinds(program.structs.as_slice(), ty, &mut kinds)?;
     Ok(kinds)
@@ -49,7 +59,9 @@ fn add_kinds(
     structs: &[StructDef],
     ty: &HlType,
     kinds: &mut Sequence<Kind>,
-) -> Result<(), NoMemory> {
+) -> Result<(), NoMemory>
+    ensures { OnOk result (kinds.new ≡ kinds.old ++ kinds_in (struct_kinds_after [] (plain_structs structs.now)) (plain_ty ty.now)) }
+{
     match ty {
         HlType::Void => Ok(()),
         HlType::Scalar(kind) => kinds.push(*kind),
@@ -60,7 +72,9 @@ fn add_kinds(
 }
 
 /// Adds a kind so many times.
-fn add_same(kind: Kind, count: u8, kinds: &mut Sequence<Kind>) -> Result<(), NoMemory> {
+fn add_same(kind: Kind, count: u8, kinds: &mut Sequence<Kind>) -> Result<(), NoMemory>
+    ensures { OnOk result (kinds.new ≡ kinds.old ++ replicate count kind) }
+{
     for _turn in 0..count {
         kinds.push(kind)?;
     }
@@ -74,7 +88,9 @@ fn add_repeated(
     element: &HlType,
     length: u32,
     kinds: &mut Sequence<Kind>,
-) -> Result<(), NoMemory> {
+) -> Result<(), NoMemory>
+    ensures { OnOk result (kinds.new ≡ kinds.old ++ repeated length (kinds_in (struct_kinds_after [] (plain_structs structs.now)) (plain_ty element.now))) }
+{
     for _turn in 0..length {
         add_kinds(structs, element, kinds)?;
     }
@@ -87,7 +103,9 @@ fn add_struct(
     structs: &[StructDef],
     number: usize,
     kinds: &mut Sequence<Kind>,
-) -> Result<(), NoMemory> {
+) -> Result<(), NoMemory>
+    ensures { OnOk result (kinds.new ≡ kinds.old ++ unwrap_or (slice_get (struct_kinds_after [] (plain_structs structs.now)) number) []) }
+{
     if number < structs.len() {
         for member in structs[number].members.as_slice() {
             add_kinds(&structs[..number], &member.ty, kinds)?;

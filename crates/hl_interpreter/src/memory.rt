@@ -1,5 +1,11 @@
 //! How places are read and written as values of their types.
 
+ghost use Rattle.std.specs.Prelude.{◌^◌, ◌<◌, length};
+ghost use Rattle.hl_meaning.specs.Views.{plain_location};
+ghost use Rattle.hl_source.specs.Memory.{read_place, read_reached, write_letters, write_place};
+ghost use Rattle.hl_interpreter.specs.HeldPlaces.{plain_holder, plain_reached};
+ghost use Rattle.hl_interpreter.specs.Runs.{Does, Gives, context_of, state_of};
+
 use crate::components::{picked, words_by_kind};
 use crate::places::{Holder, Reached, place_of, reached_kinds, reached_words};
 use crate::reading::read_words;
@@ -15,7 +21,9 @@ fn read_reached(
     holder: Holder,
     at: Reached,
     state: &mut State,
-) -> Result<Words, Stop> {
+) -> Result<Words, Stop>
+    ensures { Gives result (state_of context.now.run.now.replies.now state.new) (read_reached (context_of context.now) (plain_holder holder) (plain_reached at.entry) (state_of context.now.run.now.replies.now state.old)) }
+{
     let run = context.run;
     let count = reached_words(run.program, at.ty)?;
     let words = read_words(context, holder, at.offset, count, state)?;
@@ -33,13 +41,19 @@ fn write_letters(
     at: Reached,
     words: &[u32],
     state: &mut State,
-) -> Result<(), Stop> {
+) -> Result<(), Stop>
+    requires { length words.now < 2 ^ 32 }
+    ensures { Does result (state_of context.now.run.now.replies.now state.new) (write_letters (context_of context.now) (plain_holder holder) at.entry.offset at.entry.letters.now words.now (state_of context.now.run.now.replies.now state.old)) }
+{
     if at.letters.is_empty() {
         return write_words(context, holder, at.offset, words, state);
     }
-    for (letter, word) in at.letters.iter().zip(words) {
+    for (number, letter) in at.letters.iter().enumerate() {
+        if number >= words.len() {
+            return Ok(());
+        }
         let offset = at.offset.wrapping_add(u32::from(*letter));
-        write_words(context, holder, offset, &[*word], state)?;
+        write_words(context, holder, offset, &[words[number]], state)?;
     }
     Ok(())
 }
@@ -53,7 +67,9 @@ pub(crate) fn read_place(
     location: &Location,
     indexes: &[u32],
     state: &mut State,
-) -> Result<Words, Stop> {
+) -> Result<Words, Stop>
+    ensures { Gives result (state_of context.now.run.now.replies.now state.new) (read_place (context_of context.now) (plain_location location.now) indexes.now (state_of context.now.run.now.replies.now state.old)) }
+{
     let place = place_of(context, location, indexes)?;
     read_reached(context, place.holder, place.at, state)
 }
@@ -65,7 +81,10 @@ pub(crate) fn write_place(
     indexes: &[u32],
     words: &[u32],
     state: &mut State,
-) -> Result<(), Stop> {
+) -> Result<(), Stop>
+    requires { length words.now < 2 ^ 32 }
+    ensures { Does result (state_of context.now.run.now.replies.now state.new) (write_place (context_of context.now) (plain_location location.now) indexes.now words.now (state_of context.now.run.now.replies.now state.old)) }
+{
     let place = place_of(context, location, indexes)?;
     write_letters(context, place.holder, place.at, words, state)
 }

@@ -1,5 +1,12 @@
 //! What operators and conversions make of one word, or of one word of each operand.
 
+ghost use Rattle.std.specs.Prelude.{◌≡◌, ◌==◌, ◌&&◌, ◌||◌, not};
+ghost use Rattle.hl_meaning.specs.Types.{component_count};
+ghost use Rattle.hl_meaning.specs.Views.{plain_ty};
+ghost use Rattle.hl_source.specs.Operations.{binary_word, by_sign, chosen_word, component_kind, less, unary_word, word_as};
+ghost use Rattle.hl_source.specs.Words.{signed_quotient, signed_remainder, signed_shift_right, unsigned_quotient, unsigned_remainder, unsigned_shift_right};
+ghost use Rattle.hl_interpreter.specs.Marks.{truth_of};
+
 use crate::words::{
     holds, shift_left, signed_less, signed_quotient, signed_remainder, signed_shift_right, truth,
     unsigned_quotient, unsigned_remainder, unsigned_shift_right,
@@ -8,7 +15,9 @@ use hl_meaning::{HlType, Kind};
 use lane_core::LaneFault;
 
 /// The kind of the components of a scalar or a vector, and `Uint` for any other type.
-pub(crate) fn component_kind(ty: &HlType) -> Kind {
+pub(crate) fn component_kind(ty: &HlType) -> Kind
+    ensures { result ≡ component_kind (plain_ty ty.now) }
+{
     match ty {
         HlType::Scalar(kind) => *kind,
         HlType::Vector(kind, _) => *kind,
@@ -17,7 +26,9 @@ pub(crate) fn component_kind(ty: &HlType) -> Kind {
 }
 
 /// The number of components of a scalar or a vector, and 0 for any other type.
-pub(crate) fn component_count(ty: &HlType) -> usize {
+pub(crate) fn component_count(ty: &HlType) -> usize
+    ensures { result ≡ component_count (plain_ty ty.now) }
+{
     match ty {
         HlType::Scalar(_) => 1,
         HlType::Vector(_, size) => *size as usize,
@@ -26,7 +37,9 @@ pub(crate) fn component_count(ty: &HlType) -> usize {
 }
 
 /// A word as a value of a kind.
-pub(crate) fn word_as(kind: Kind, word: u32) -> u32 {
+pub(crate) fn word_as(kind: Kind, word: u32) -> u32
+    ensures { result ≡ word_as kind word }
+{
     match kind {
         Kind::Bool => truth(holds(word)),
         Kind::Int | Kind::Uint => word,
@@ -34,7 +47,9 @@ pub(crate) fn word_as(kind: Kind, word: u32) -> u32 {
 }
 
 /// Whether one word of a kind is less than another.
-pub(crate) fn less(kind: Kind, left: u32, right: u32) -> bool {
+pub(crate) fn less(kind: Kind, left: u32, right: u32) -> bool
+    ensures { result ≡ less kind left right }
+{
     match kind {
         Kind::Int => signed_less(left, right),
         Kind::Bool | Kind::Uint => left < right,
@@ -45,7 +60,9 @@ pub(crate) fn less(kind: Kind, left: u32, right: u32) -> bool {
 ///
 /// # Errors
 /// As of `signed_quotient` and `unsigned_quotient`.
-fn quotient(kind: Kind, left: u32, right: u32) -> Result<u32, LaneFault> {
+fn quotient(kind: Kind, left: u32, right: u32) -> Result<u32, LaneFault>
+    ensures { result ≡ by_sign signed_quotient unsigned_quotient kind left right }
+{
     match kind {
         Kind::Int => signed_quotient(left, right),
         Kind::Bool | Kind::Uint => unsigned_quotient(left, right),
@@ -56,7 +73,9 @@ fn quotient(kind: Kind, left: u32, right: u32) -> Result<u32, LaneFault> {
 ///
 /// # Errors
 /// As of `signed_remainder` and `unsigned_remainder`.
-fn remainder(kind: Kind, left: u32, right: u32) -> Result<u32, LaneFault> {
+fn remainder(kind: Kind, left: u32, right: u32) -> Result<u32, LaneFault>
+    ensures { result ≡ by_sign signed_remainder unsigned_remainder kind left right }
+{
     match kind {
         Kind::Int => signed_remainder(left, right),
         Kind::Bool | Kind::Uint => unsigned_remainder(left, right),
@@ -64,7 +83,9 @@ fn remainder(kind: Kind, left: u32, right: u32) -> Result<u32, LaneFault> {
 }
 
 /// A word of a kind shifted to the right.
-fn shift_right(kind: Kind, word: u32, count: u32) -> u32 {
+fn shift_right(kind: Kind, word: u32, count: u32) -> u32
+    ensures { result ≡ by_sign signed_shift_right unsigned_shift_right kind word count }
+{
     match kind {
         Kind::Int => signed_shift_right(word, count),
         Kind::Bool | Kind::Uint => unsigned_shift_right(word, count),
@@ -75,7 +96,9 @@ fn shift_right(kind: Kind, word: u32, count: u32) -> u32 {
 ///
 /// # Errors
 /// The faults of `/` and `%`.
-pub(crate) fn binary_word(op: u8, kind: Kind, left: u32, right: u32) -> Result<u32, LaneFault> {
+pub(crate) fn binary_word(op: u8, kind: Kind, left: u32, right: u32) -> Result<u32, LaneFault>
+    ensures { result ≡ binary_word op kind left right }
+{
     match op {
         12 => Ok(left.wrapping_add(right)),
         13 => Ok(left.wrapping_sub(right)),
@@ -92,7 +115,9 @@ pub(crate) fn binary_word(op: u8, kind: Kind, left: u32, right: u32) -> Result<u
 }
 
 /// What a comparison, `&&` or `||` says of two words of a kind.
-fn is_true(op: u8, kind: Kind, left: u32, right: u32) -> bool {
+fn is_true(op: u8, kind: Kind, left: u32, right: u32) -> bool
+    ensures { result ≡ truth_of op kind left right }
+{
     match op {
         17 => less(kind, left, right),
         18 => less(kind, right, left),
@@ -107,7 +132,9 @@ fn is_true(op: u8, kind: Kind, left: u32, right: u32) -> bool {
 }
 
 /// What `-`, `~`, `!` or `+` computes of a word.
-pub(crate) fn unary_word(op: u8, word: u32) -> u32 {
+pub(crate) fn unary_word(op: u8, word: u32) -> u32
+    ensures { result ≡ unary_word op word }
+{
     match op {
         13 => 0u32.wrapping_sub(word),
         20 => !word,
@@ -117,7 +144,9 @@ pub(crate) fn unary_word(op: u8, word: u32) -> u32 {
 }
 
 /// The word that `?:` takes.
-pub(crate) fn chosen_word(condition: u32, consequent: u32, alternative: u32) -> u32 {
+pub(crate) fn chosen_word(condition: u32, consequent: u32, alternative: u32) -> u32
+    ensures { result ≡ chosen_word condition consequent alternative }
+{
     if holds(condition) {
         consequent
     } else {

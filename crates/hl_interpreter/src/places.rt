@@ -1,5 +1,16 @@
 //! Where places stand, and what parts of values steps pick.
 
+ghost use Rattle.std.specs.Prelude.{◌≡◌, ℕ, List, [], ◌∷◌, IfOk, cond, drop, map, option_and_then, option_map, slice_get, slice_index, take, unwrap_or};
+ghost use Rattle.hl_meaning.specs.Layout.{kinds_of, words_of};
+ghost use Rattle.hl_meaning.specs.Places.{element_type, root_type};
+ghost use Rattle.hl_meaning.specs.Trees.{PathParts, more_parts};
+ghost use Rattle.hl_meaning.specs.Types.{void_type};
+ghost use Rattle.hl_meaning.specs.Views.{plain_expr, plain_location, plain_member, plain_part, plain_parts, plain_resource, plain_root, plain_structs, plain_ty};
+ghost use Rattle.hl_source.specs.Offsets.{at_index, at_member, at_swizzle, element_of, further, holder_of, indexes_of_steps, literal_indexes, literal_word, member_of, picked_words, place_of, reached, slot_of, start_of};
+ghost use Rattle.hl_source.specs.Operations.{component_kind};
+ghost use Rattle.hl_interpreter.specs.HeldPlaces.{index_count, plain_holder, plain_place, plain_reached, plain_type};
+ghost use Rattle.hl_interpreter.specs.Runs.{context_of, run_context};
+
 use crate::components::{picked, word_at};
 use crate::layout::{kinds_of, words_of};
 use crate::operations::component_kind;
@@ -43,7 +54,9 @@ pub(crate) struct Place<'a> {
 }
 
 /// The start of something of a type.
-fn start_of<'a>(ty: ReachedType<'a>) -> Reached<'a> {
+fn start_of<'a>(ty: ReachedType<'a>) -> Reached<'a>
+    ensures { plain_reached result ≡ start_of (plain_type ty.entry) }
+{
     Reached {
         ty,
         offset: 0,
@@ -52,7 +65,9 @@ fn start_of<'a>(ty: ReachedType<'a>) -> Reached<'a> {
 }
 
 /// Something of a type, so many words behind a place.
-fn further<'a>(from: Reached<'a>, ty: ReachedType<'a>, words: u32) -> Reached<'a> {
+fn further<'a>(from: Reached<'a>, ty: ReachedType<'a>, words: u32) -> Reached<'a>
+    ensures { plain_reached result ≡ further (plain_reached from.entry) (plain_type ty.entry) words }
+{
     Reached {
         ty,
         offset: from.offset.wrapping_add(words),
@@ -64,7 +79,9 @@ fn further<'a>(from: Reached<'a>, ty: ReachedType<'a>, words: u32) -> Reached<'a
 ///
 /// # Errors
 /// `NoMemory` where they are too many to be held, as in each function below.
-pub(crate) fn reached_words(program: &Program, ty: ReachedType) -> Result<u32, NoMemory> {
+pub(crate) fn reached_words(program: &Program, ty: ReachedType) -> Result<u32, NoMemory>
+    ensures { IfOk result (λ words. words ≡ words_of (plain_structs program.now.structs) (plain_type ty.entry)) }
+{
     match ty {
         ReachedType::Held(ty) => words_of(program, ty),
         ReachedType::Component(_) => Ok(1),
@@ -77,7 +94,9 @@ pub(crate) fn reached_kinds(
     alloc: Global,
     program: &Program,
     ty: ReachedType,
-) -> Result<Sequence<Kind>, NoMemory> {
+) -> Result<Sequence<Kind>, NoMemory>
+    ensures { IfOk result (λ kinds. kinds ≡ kinds_of (plain_structs program.now.structs) (plain_type ty.entry)) }
+{
     match ty {
         ReachedType::Held(ty) => kinds_of(alloc, program, ty),
         ReachedType::Component(kind) => {
@@ -90,7 +109,9 @@ pub(crate) fn reached_kinds(
 }
 
 /// The kind of the components of what was reached.
-fn reached_kind(ty: ReachedType) -> Kind {
+fn reached_kind(ty: ReachedType) -> Kind
+    ensures { result ≡ component_kind (plain_type ty.entry) }
+{
     match ty {
         ReachedType::Held(ty) => component_kind(ty),
         ReachedType::Component(kind) => kind,
@@ -99,7 +120,9 @@ fn reached_kind(ty: ReachedType) -> Kind {
 }
 
 /// The member of a number of a struct.
-fn member_of<'a>(program: &'a Program, ty: ReachedType, number: u32) -> Option<&'a Member> {
+fn member_of<'a>(program: &'a Program, ty: ReachedType, number: u32) -> Option<&'a Member>
+    ensures { option_map (λ m. plain_member m.now) result ≡ member_of (plain_structs program.now.structs) (plain_type ty.entry) number }
+{
     match ty {
         ReachedType::Held(HlType::Struct(structure)) => {
             match program.structs.get(*structure as usize) {
@@ -112,7 +135,9 @@ fn member_of<'a>(program: &'a Program, ty: ReachedType, number: u32) -> Option<&
 }
 
 /// A member stands at its offset in its struct.
-fn at_member<'a>(program: &'a Program, from: Reached<'a>, number: u32) -> Reached<'a> {
+fn at_member<'a>(program: &'a Program, from: Reached<'a>, number: u32) -> Reached<'a>
+    ensures { plain_reached result ≡ at_member (plain_reached from.entry) (member_of (plain_structs program.now.structs) (plain_type from.entry.ty) number) }
+{
     match member_of(program, from.ty, number) {
         Some(member) => further(from, ReachedType::Held(&member.ty), member.offset),
         None => from,
@@ -120,7 +145,9 @@ fn at_member<'a>(program: &'a Program, from: Reached<'a>, number: u32) -> Reache
 }
 
 /// The type of the elements of an array, or of the components of a vector.
-fn element_of<'a>(ty: ReachedType<'a>) -> ReachedType<'a> {
+fn element_of<'a>(ty: ReachedType<'a>) -> ReachedType<'a>
+    ensures { plain_type result ≡ element_of (plain_type ty.entry) }
+{
     match ty {
         ReachedType::Held(HlType::Array(element, _)) => ReachedType::Held(element.get()),
         _ => ReachedType::Component(reached_kind(ty)),
@@ -132,14 +159,18 @@ fn at_index<'a>(
     program: &'a Program,
     from: Reached<'a>,
     index: u32,
-) -> Result<Reached<'a>, NoMemory> {
+) -> Result<Reached<'a>, NoMemory>
+    ensures { IfOk result (λ there. plain_reached there ≡ at_index (plain_structs program.now.structs) (plain_reached from.entry) index) }
+{
     let element = element_of(from.ty);
     let words = reached_words(program, element)?;
     Ok(further(from, element, index.wrapping_mul(words)))
 }
 
 /// A swizzle of one letter leads to the component of the letter; a longer one stays at its vector.
-fn at_swizzle<'a>(from: Reached<'a>, letters: &'a [u8]) -> Reached<'a> {
+fn at_swizzle<'a>(from: Reached<'a>, letters: &'a [u8]) -> Reached<'a>
+    ensures { plain_reached result ≡ at_swizzle (plain_reached from.entry) letters.now }
+{
     match letters {
         [letter] => further(
             from,
@@ -160,7 +191,11 @@ fn stepped<'a>(
     from: Reached<'a>,
     part: &'a PathPart,
     index: u32,
-) -> Result<Reached<'a>, NoMemory> {
+) -> Result<Reached<'a>, NoMemory>
+    ensures { IfOk result (λ there. (rest : PathParts) (indexes : List ℕ) → slice_index indexes 0 ≡ index →
+        reached (plain_structs program.now.structs) (plain_reached from.entry) (more_parts (plain_part part.now) rest) indexes
+        ≡ reached (plain_structs program.now.structs) (plain_reached there) rest (drop (index_count (plain_part part.now)) indexes)) }
+{
     match part {
         PathPart::Member(number) => Ok(at_member(program, from, *number)),
         PathPart::Index(_) => at_index(program, from, index),
@@ -169,7 +204,9 @@ fn stepped<'a>(
 }
 
 /// Whether a step is an index.
-fn is_index(part: &PathPart) -> bool {
+fn is_index(part: &PathPart) -> bool
+    ensures { cond result 1 0 ≡ index_count (plain_part part.now) }
+{
     match part {
         PathPart::Index(_) => true,
         PathPart::Member(_) | PathPart::Swizzle(_) => false,
@@ -182,7 +219,9 @@ fn steps_to<'a>(
     start: ReachedType<'a>,
     parts: &'a [PathPart],
     indexes: &[u32],
-) -> Result<Reached<'a>, NoMemory> {
+) -> Result<Reached<'a>, NoMemory>
+    ensures { IfOk result (λ there. plain_reached there ≡ reached (plain_structs program.now.structs) (start_of (plain_type start.entry)) (plain_parts parts.now) indexes.now) }
+{
     let mut from = start_of(start);
     let mut next = 0;
     for part in parts {
@@ -195,7 +234,9 @@ fn steps_to<'a>(
 }
 
 /// The type of a root.
-fn root_type<'a>(context: &Context<'a>, root: &Root) -> ReachedType<'a> {
+fn root_type<'a>(context: &Context<'a>, root: &Root) -> ReachedType<'a>
+    ensures { plain_type result ≡ unwrap_or (root_type (context_of context.now).scope (plain_root root.now)) void_type }
+{
     match root {
         Root::Variable(number) => match context.function.variables.get(*number as usize) {
             Some(variable) => ReachedType::Held(&variable.ty),
@@ -214,7 +255,9 @@ fn root_type<'a>(context: &Context<'a>, root: &Root) -> ReachedType<'a> {
 }
 
 /// The type of the elements of a structured buffer.
-fn element_type<'a>(program: &'a Program, resource: u32) -> ReachedType<'a> {
+fn element_type<'a>(program: &'a Program, resource: u32) -> ReachedType<'a>
+    ensures { plain_type result ≡ unwrap_or (option_and_then element_type (slice_get (map plain_resource program.now.resources) resource)) void_type }
+{
     match program.resources.get(resource as usize) {
         Some(resource) => {
             if resource.raw {
@@ -228,7 +271,9 @@ fn element_type<'a>(program: &'a Program, resource: u32) -> ReachedType<'a> {
 }
 
 /// The slot of a buffer.
-pub(crate) fn slot_of(run: &Run, resource: u32) -> Slot {
+pub(crate) fn slot_of(run: &Run, resource: u32) -> Slot
+    ensures { result ≡ slot_of (run_context run.now) resource }
+{
     match run.slots.get(resource as usize) {
         Some(slot) => *slot,
         None => Slot {
@@ -240,7 +285,9 @@ pub(crate) fn slot_of(run: &Run, resource: u32) -> Slot {
 }
 
 /// What a root is, with the words of the indexes of its place.
-fn holder_of(run: &Run, root: &Root, indexes: &[u32]) -> Holder {
+fn holder_of(run: &Run, root: &Root, indexes: &[u32]) -> Holder
+    ensures { plain_holder result ≡ holder_of (run_context run.now) (plain_root root.now) indexes.now }
+{
     match root {
         Root::Variable(number) => Holder::Variable(*number),
         Root::Constant(number) => Holder::Constant(*number),
@@ -253,7 +300,9 @@ fn holder_of(run: &Run, root: &Root, indexes: &[u32]) -> Holder {
 }
 
 /// The indexes of the steps: all but that of an element.
-fn indexes_of_steps<'a>(root: &Root, indexes: &'a [u32]) -> &'a [u32] {
+fn indexes_of_steps<'a>(root: &Root, indexes: &'a [u32]) -> &'a [u32]
+    ensures { result.now ≡ indexes_of_steps (plain_root root.now) indexes.now }
+{
     match root {
         Root::Element { .. } => {
             if indexes.is_empty() {
@@ -271,7 +320,9 @@ pub(crate) fn place_of<'a>(
     context: &Context<'a>,
     location: &'a Location,
     indexes: &[u32],
-) -> Result<Place<'a>, NoMemory> {
+) -> Result<Place<'a>, NoMemory>
+    ensures { IfOk result (λ place. plain_place place ≡ place_of (context_of context.now) (plain_location location.now) indexes.now) }
+{
     let steps = indexes_of_steps(&location.root, indexes);
     let start = root_type(context, &location.root);
     let at = steps_to(
@@ -287,7 +338,9 @@ pub(crate) fn place_of<'a>(
 }
 
 /// The word of a literal, and 0 for any other expression.
-fn literal_word(expr: &Expr) -> u32 {
+fn literal_word(expr: &Expr) -> u32
+    ensures { result ≡ literal_word (plain_expr expr.now) }
+{
     match &expr.form {
         Form::Literal(word) => *word,
         _ => 0,
@@ -295,7 +348,9 @@ fn literal_word(expr: &Expr) -> u32 {
 }
 
 /// The words of indexes that are literals.
-fn literal_indexes(alloc: Global, parts: &[PathPart]) -> Result<Words, NoMemory> {
+fn literal_indexes(alloc: Global, parts: &[PathPart]) -> Result<Words, NoMemory>
+    ensures { IfOk result (λ indexes. indexes ≡ literal_indexes (plain_parts parts.now)) }
+{
     let mut indexes = Words::new(alloc);
     for part in parts {
         if let PathPart::Index(index) = part {
@@ -306,7 +361,9 @@ fn literal_indexes(alloc: Global, parts: &[PathPart]) -> Result<Words, NoMemory>
 }
 
 /// The words of what was reached among the words of a value.
-fn words_at<'a>(words: &'a [u32], offset: u32, count: u32) -> &'a [u32] {
+fn words_at<'a>(words: &'a [u32], offset: u32, count: u32) -> &'a [u32]
+    ensures { result.now ≡ take count (drop offset words.now) }
+{
     let first = (offset as usize).min(words.len());
     let rest = &words[first..];
     &rest[..(count as usize).min(rest.len())]
@@ -318,7 +375,9 @@ pub(crate) fn picked_words(
     ty: &HlType,
     parts: &[PathPart],
     words: &[u32],
-) -> Result<Words, NoMemory> {
+) -> Result<Words, NoMemory>
+    ensures { IfOk result (λ found. found ≡ picked_words (plain_structs run.now.program.now.structs) (plain_ty ty.now) (plain_parts parts.now) words.now) }
+{
     let indexes = literal_indexes(run.alloc, parts)?;
     let start = ReachedType::Held(ty);
     let at = steps_to(run.program, start, parts, indexes.as_slice())?;

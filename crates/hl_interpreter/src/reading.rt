@@ -1,16 +1,25 @@
 //! How the words of places are read.
 
+ghost use Rattle.std.specs.Prelude.{◌≡◌, [], IfOk, slice_get, unwrap_or};
+ghost use Rattle.lane_core.specs.declared.event.Event.TheVariants.{SharedLoad};
+ghost use Rattle.hl_source.specs.Memory.{cell, constant_words, read_words, shared_size, within, word_of, word_offsets};
+ghost use Rattle.hl_source.specs.State.{State, asks_word, each};
+ghost use Rattle.hl_interpreter.specs.HeldPlaces.{plain_holder};
+ghost use Rattle.hl_interpreter.specs.Runs.{Gives, Meets, context_of, run_context, state_of};
+
 use crate::buffers::load_words;
 use crate::layout::words_of;
 use crate::places::Holder;
 use crate::run::{Context, Run, Stop};
 use crate::state::{State, asks_word};
-use base_core::Words;
+use base_core::{NoMemory, Words};
 use lane_core::{Cell, Event, LaneFault};
 use std::alloc::Global;
 
 /// The words of a constant.
-fn constant_words<'a>(run: &Run<'a>, number: u32) -> &'a [u32] {
+fn constant_words<'a>(run: &Run<'a>, number: u32) -> &'a [u32]
+    ensures { result.now ≡ constant_words (run_context run.now) number }
+{
     match run.program.constants.get(number as usize) {
         Some(constant) => constant.words.as_slice(),
         None => &[],
@@ -20,19 +29,20 @@ fn constant_words<'a>(run: &Run<'a>, number: u32) -> &'a [u32] {
 /// How many words a groupshared variable has.
 ///
 /// # Errors
-/// `Stop::Memory` where they are too many to be held.
-pub(crate) fn shared_size(run: &Run, number: u32) -> Result<u32, Stop> {
+/// `NoMemory` where they are too many to be held.
+pub(crate) fn shared_size(run: &Run, number: u32) -> Result<u32, NoMemory>
+    ensures { IfOk result (λ size. size ≡ shared_size (run_context run.now) number) }
+{
     match run.program.shared.get(number as usize) {
-        Some(variable) => {
-            let words = words_of(run.program, &variable.ty)?;
-            Ok(words)
-        }
+        Some(variable) => words_of(run.program, &variable.ty),
         None => Ok(0),
     }
 }
 
 /// The words of a variable.
-fn variable_words(state: &State, number: u32) -> &[u32] {
+fn variable_words(state: &State, number: u32) -> &[u32]
+    ensures { result.now ≡ unwrap_or (slice_get state.now.variables.items number) [] }
+{
     match state.variables.get(number as usize) {
         Some(words) => words.as_slice(),
         None => &[],
@@ -43,7 +53,9 @@ fn variable_words(state: &State, number: u32) -> &[u32] {
 ///
 /// # Errors
 /// The fault `OutOfBounds` at the first one that isn't there.
-fn words_from(alloc: Global, words: &[u32], offset: u32, count: u32) -> Result<Words, Stop> {
+fn words_from(alloc: Global, words: &[u32], offset: u32, count: u32) -> Result<Words, Stop>
+    ensures { (s : State) → Gives result s (each (word_of words.now) (word_offsets offset count) s) }
+{
     let mut found = Words::new(alloc);
     for more in 0..count {
         let at = offset.wrapping_add(more);
@@ -62,7 +74,9 @@ fn shared_word(
     size: u32,
     at: u32,
     state: &mut State,
-) -> Result<u32, Stop> {
+) -> Result<u32, Stop>
+    ensures { Meets (λ word. word) result (state_of run.now.replies.now state.new) (within at size (asks_word (SharedLoad (cell number at))) (state_of run.now.replies.now state.old)) }
+{
     if at >= size {
         return Err(Stop::from(LaneFault::OutOfBounds));
     }
@@ -83,7 +97,10 @@ fn shared_words(
     offset: u32,
     count: u32,
     state: &mut State,
-) -> Result<Words, Stop> {
+) -> Result<Words, Stop>
+    ensures { Gives result (state_of run.now.replies.now state.new)
+        (each (λ at. within at (shared_size (run_context run.now) number) (asks_word (SharedLoad (cell number at)))) (word_offsets offset count) (state_of run.now.replies.now state.old)) }
+{
     let size = shared_size(run, number)?;
     let mut found = Words::new(run.alloc);
     for more in 0..count {
@@ -103,7 +120,9 @@ pub(crate) fn read_words(
     offset: u32,
     count: u32,
     state: &mut State,
-) -> Result<Words, Stop> {
+) -> Result<Words, Stop>
+    ensures { Gives result (state_of context.now.run.now.replies.now state.new) (read_words (context_of context.now) (plain_holder holder) offset count (state_of context.now.run.now.replies.now state.old)) }
+{
     let run = context.run;
     match holder {
         Holder::Variable(number) => {

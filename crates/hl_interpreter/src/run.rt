@@ -42,18 +42,34 @@ pub(crate) enum Stop {
 }
 
 impl From<NoMemory> for Stop {
+    ghost use Rattle.std.specs.Prelude.{◌≡◌};
+    ghost use Rattle.hl_interpreter.specs.declared.run.Stop.TheVariants.{Memory};
+
+    ghost from_gives = { λ _ stop. stop ≡ Memory };
+
     fn from(_refused: NoMemory) -> Stop {
         Stop::Memory
     }
 }
 
 impl<T: Drop> From<AllocFailed<T>> for Stop {
+    ghost use Rattle.std.specs.Prelude.{◌≡◌};
+    ghost use Rattle.hl_interpreter.specs.declared.run.Stop.TheVariants.{Memory};
+
+    ghost from_gives = { λ _ stop. stop ≡ Memory };
+
     fn from(_refused: AllocFailed<T>) -> Stop {
         Stop::Memory
     }
 }
 
 impl From<LaneFault> for Stop {
+    ghost use Rattle.std.specs.Prelude.{◌≡◌};
+    ghost use Rattle.lane_core.specs.declared.event.Asked.TheVariants.{Fault};
+    ghost use Rattle.hl_interpreter.specs.declared.run.Stop.TheVariants.{Ends};
+
+    ghost from_gives = { λ fault stop. stop ≡ Ends (Fault fault) };
+
     fn from(fault: LaneFault) -> Stop {
         Stop::Ends(Asked::Fault(fault))
     }

@@ -1,5 +1,13 @@
 //! How the words of places are written.
 
+ghost use Rattle.std.specs.Prelude.{◌≡◌, ℕ, ◌^◌, ◌<◌, ◌≤◌, List, length, zip};
+ghost use Rattle.lane_core.specs.declared.event.Reply.{Reply};
+ghost use Rattle.lane_core.specs.declared.event.Event.TheVariants.{SharedStore};
+ghost use Rattle.hl_source.specs.Memory.{cell, shared_size, within, word_offsets, write_variable_word, write_words};
+ghost use Rattle.hl_source.specs.State.{State, asks, each, no_value, variable_words, with_variable};
+ghost use Rattle.hl_interpreter.specs.HeldPlaces.{plain_holder};
+ghost use Rattle.hl_interpreter.specs.Runs.{Does, context_of, run_context, state_of};
+
 use crate::buffers::store_words;
 use crate::places::Holder;
 use crate::reading::shared_size;
@@ -14,17 +22,31 @@ use std::mem;
 ///
 /// # Errors
 /// The fault `OutOfBounds` at the first one that isn't there.
-fn set_words(variable: &mut [u32], offset: u32, words: &[u32]) -> Result<(), Stop> {
-    let mut at = offset;
-    for word in words {
-        let place = at as usize;
-        if place >= variable.len() {
+fn set_words(variable: &mut [u32], offset: u32, words: &[u32]) -> Result<(), Stop>
+    requires { length words.now < 2 ^ 32 }
+    ensures { (number : ℕ) (s : State) → number < length s.variables → variable_words s number ≡ variable.old
+        → Does result (with_variable number variable.new s) (no_value (each (λ w. write_variable_word number w.0 w.1) (zip (word_offsets offset (length words.now)) words.now) s)) }
+{
+    for (more, word) in words.iter().enumerate() {
+        let at = offset.wrapping_add(more as u32) as usize;
+        if at >= variable.len() {
             return Err(Stop::from(LaneFault::OutOfBounds));
         }
-        variable[place] = *word;
-        at = at.wrapping_add(1);
+        variable[at] = *word;
     }
     Ok(())
+}
+
+/// Words written to a variable that isn't there.
+fn set_nothing(words: &[u32]) -> Result<(), Stop>
+    ensures { (number : ℕ) (offset : ℕ) (s : State) → length s.variables ≤ number
+        → Does result s (no_value (each (λ w. write_variable_word number w.0 w.1) (zip (word_offsets offset (length words.now)) words.now) s)) }
+{
+    if words.is_empty() {
+        Ok(())
+    } else {
+        Err(Stop::from(LaneFault::OutOfBounds))
+    }
 }
 
 /// Words of a variable written.
@@ -37,10 +59,14 @@ fn write_variable(
     offset: u32,
     words: &[u32],
     state: &mut State,
-) -> Result<(), Stop> {
+) -> Result<(), Stop>
+    requires { length words.now < 2 ^ 32 }
+    ensures { (replies : List Reply) → Does result (state_of replies state.new)
+        (no_value (each (λ w. write_variable_word number w.0 w.1) (zip (word_offsets offset (length words.now)) words.now) (state_of replies state.old))) }
+{
     let number = number as usize;
     if number >= state.variables.len() {
-        return set_words(&mut [], offset, words);
+        return set_nothing(words);
     }
     let before = mem::replace(&mut state.variables[number], Words::new(alloc));
     let mut variable = before.into_vec();
@@ -57,7 +83,9 @@ fn write_shared_word(
     at: u32,
     word: u32,
     state: &mut State,
-) -> Result<(), Stop> {
+) -> Result<(), Stop>
+    ensures { Does result (state_of run.now.replies.now state.new) (no_value (within at size (asks (SharedStore (cell number at) word)) (state_of run.now.replies.now state.old))) }
+{
     if at >= size {
         return Err(Stop::from(LaneFault::OutOfBounds));
     }
@@ -79,12 +107,15 @@ fn write_shared(
     offset: u32,
     words: &[u32],
     state: &mut State,
-) -> Result<(), Stop> {
+) -> Result<(), Stop>
+    requires { length words.now < 2 ^ 32 }
+    ensures { Does result (state_of run.now.replies.now state.new)
+        (no_value (each (λ w. within w.0 (shared_size (run_context run.now) number) (asks (SharedStore (cell number w.0) w.1))) (zip (word_offsets offset (length words.now)) words.now) (state_of run.now.replies.now state.old))) }
+{
     let size = shared_size(run, number)?;
-    let mut at = offset;
-    for word in words {
+    for (more, word) in words.iter().enumerate() {
+        let at = offset.wrapping_add(more as u32);
         write_shared_word(run, number, size, at, *word, state)?;
-        at = at.wrapping_add(1);
     }
     Ok(())
 }
@@ -99,7 +130,10 @@ pub(crate) fn write_words(
     offset: u32,
     words: &[u32],
     state: &mut State,
-) -> Result<(), Stop> {
+) -> Result<(), Stop>
+    requires { length words.now < 2 ^ 32 }
+    ensures { Does result (state_of context.now.run.now.replies.now state.new) (write_words (context_of context.now) (plain_holder holder) offset words.now (state_of context.now.run.now.replies.now state.old)) }
+{
     let run = context.run;
     match holder {
         Holder::Variable(number) => write_variable(run.alloc, number, offset, words, state),

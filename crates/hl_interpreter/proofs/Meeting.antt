@@ -68,7 +68,7 @@ behind-none (ends_at run) = refl
 pub behind-end : {A : Type 0} (acc : List A) (s : State) → behind acc (goes_with [] s) ≡ goes_with acc s
 behind-end acc s = ap (λ l. goes_with l s) (append-nil acc)
 
-behind-behind : {A : Type 0} (acc more : List A) (p : Progress (List A)) → behind acc (behind more p) ≡ behind (acc ++ more) p
+pub behind-behind : {A : Type 0} (acc more : List A) (p : Progress (List A)) → behind acc (behind more p) ≡ behind (acc ++ more) p
 behind-behind acc more (goes_with a s) = ap (λ l. goes_with l s) (sym (append_assoc acc more a))
 behind-behind acc more (ends_at run) = refl
 

@@ -1,6 +1,6 @@
 //! Where places stand, and what parts of values steps pick.
 
-ghost use Rattle.std.specs.Prelude.{◌≡◌, ℕ, List, [], ◌∷◌, IfOk, cond, drop, map, option_and_then, option_map, slice_get, slice_index, take, unwrap_or};
+ghost use Rattle.std.specs.Prelude.{◌≡◌, ◌≤◌, ℕ, List, IfOk, drop, map, option_and_then, option_map, slice_get, slice_index, take, unwrap_or};
 ghost use Rattle.hl_meaning.specs.Layout.{kinds_of, words_of};
 ghost use Rattle.hl_meaning.specs.Places.{element_type, root_type};
 ghost use Rattle.hl_meaning.specs.Trees.{PathParts, more_parts};
@@ -203,13 +203,14 @@ fn stepped<'a>(
     }
 }
 
-/// Whether a step is an index.
-fn is_index(part: &PathPart) -> bool
-    ensures { cond result 1 0 ≡ index_count (plain_part part.now) }
+/// How many indexes a step takes.
+fn index_count(part: &PathPart) -> usize
+    ensures value { result ≡ index_count (plain_part part.now) }
+    ensures limit { result ≤ 1 }
 {
     match part {
-        PathPart::Index(_) => true,
-        PathPart::Member(_) | PathPart::Swizzle(_) => false,
+        PathPart::Index(_) => 1,
+        PathPart::Member(_) | PathPart::Swizzle(_) => 0,
     }
 }
 
@@ -226,9 +227,7 @@ fn steps_to<'a>(
     let mut next = 0;
     for part in parts {
         from = stepped(program, from, part, word_at(indexes, next))?;
-        if is_index(part) {
-            next += 1;
-        }
+        next += index_count(part);
     }
     Ok(from)
 }

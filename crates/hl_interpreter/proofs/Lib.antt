@@ -1,5 +1,7 @@
 pub mod Asking
 pub mod Callees
+pub mod Doing
+pub mod Expressing
 pub mod Forms
 pub mod Loops
 pub mod Meeting

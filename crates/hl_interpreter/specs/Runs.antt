@@ -1,17 +1,17 @@
 -- What is held while a lane runs, as the meaning of programs speaks of it, and what a call says of a part of a run.
-use Rattle.std.specs.Prelude.{◌≡◌, ℕ, List, [], ◌∷◌, ◌++◌, drop, length, map, Result, Ok, Err}
+use Rattle.std.specs.Prelude.{◌≡◌, ℕ, List, [], ◌∷◌, ◌++◌, drop, length, map, if◌then◌else◌, Option, Some, None, Result, Ok, Err}
 use Rattle.lane_core.specs.declared.event.Asked.{Asked}
 use Rattle.lane_core.specs.declared.event.Reply.{Reply}
 use Rattle.lane_core.specs.Lane.{Lane, Run as LaneRunOf, standing}
 use Rattle.hl_meaning.specs.declared.program.FunctionDef.{FunctionDef}
 use Rattle.hl_meaning.specs.Programs as plain
-use Rattle.hl_meaning.specs.Trees.{Form, no_stmts}
+use Rattle.hl_meaning.specs.Trees.{Expr, Form, no_stmts}
 use Rattle.hl_meaning.specs.Types.{Ty, void_type}
 use Rattle.hl_meaning.specs.Views.{plain_constant, plain_function, plain_resource, plain_structs, plain_variable}
 use Rattle.hl_source.specs.Expressions.{acts, operands}
 use Rattle.hl_source.specs.SourceLane.{callee_of, grid_of}
 use Rattle.hl_source.specs.State.{Callee, Context, Progress, State, after, ends_at, goes_with}
-use Rattle.hl_source.specs.Statements.{Leaving, at_end, by_break, by_continue, by_return}
+use Rattle.hl_source.specs.Statements.{Doing, Leaving, at_end, by_break, by_continue, by_return, condition, leaves}
 use Rattle.hl_interpreter.specs.declared.expressions.Leaving.{Leaving as HeldLeaving}
 use Rattle.hl_interpreter.specs.declared.expressions.Leaving.TheVariants.{AtEnd, ByBreak, ByContinue, ByReturn}
 use Rattle.hl_interpreter.specs.declared.lane.LaneRun.{LaneRun}
@@ -99,6 +99,15 @@ plain_leaving AtEnd = at_end
 plain_leaving ByBreak = by_break
 plain_leaving ByContinue = by_continue
 plain_leaving (ByReturn value) = by_return value
+
+-- how a loop is left, and none where another turn follows
+abbrev pub loop_left : Doing → Option HeldLeaving → Doing
+loop_left next None s = next s
+loop_left next (Some leaving) s = goes_with (plain_leaving leaving) s
+
+-- what follows the body of a `do`: it goes on where its condition is true
+abbrev pub tests : Context → Expr → Doing
+tests c cond s = after (condition c cond s) (λ goes_on. leaves (if goes_on then at_end else by_break))
 
 -- a run of a lane
 abbrev pub run_of : LaneRun → LaneRunOf

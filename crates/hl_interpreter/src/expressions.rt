@@ -3,7 +3,7 @@
 //! An expression evaluates its operands from left to right, and then acts on their words. All functions give want of
 //! memory where memory is refused, and the end of the run where it ends in them.
 
-ghost use Rattle.std.specs.Prelude.{◌≡◌, ℕ, ◌∷◌, ◌++◌, ◌^◌, ◌<◌, List, [], IfOk, OnOk, drop, length, map, option_map, slice_get, slice_index, slice_index_or, slice_set, take, unwrap_or};
+ghost use Rattle.std.specs.Prelude.{◌≡◌, ℕ, ◌∷◌, ◌++◌, ◌^◌, ◌<◌, List, [], IfOk, None, OnOk, Some, drop, length, map, option_map, slice_get, slice_index, slice_index_or, slice_set, take, unwrap_or};
 ghost use Rattle.std.specs.List.{concat};
 ghost use Rattle.hl_meaning.specs.Trees.{atomic_form, binary_form, call_form, choose_form, do_stmt, for_stmt, if_stmt, method_form, while_stmt};
 ghost use Rattle.hl_meaning.specs.Types.{Ty};
@@ -12,10 +12,10 @@ ghost use Rattle.hl_source.specs.Expressions.{argument_of, arguments, assigned, 
 ghost use Rattle.hl_source.specs.Memory.{load_four, zeros_of};
 ghost use Rattle.hl_source.specs.Offsets.{slot_of};
 ghost use Rattle.hl_source.specs.SourceLane.{value_of};
-ghost use Rattle.hl_source.specs.State.{State, after, goes_with};
-ghost use Rattle.hl_source.specs.Statements.{computes_if, condition, condition_if, declares, does, does_all, returns, tested_turn};
+ghost use Rattle.hl_source.specs.State.{State as PlainState, after, goes_with};
+ghost use Rattle.hl_source.specs.Statements.{Doing, computes_if, condition, condition_if, declares, does, does_all, returns, tested_turn, testing_turn, then_loop};
 ghost use Rattle.hl_interpreter.specs.Operands.{interleaved, operands_of, pair_of};
-ghost use Rattle.hl_interpreter.specs.Runs.{Does, Gives, Meets, callees_behind, context_of, form_value, plain_leaving, run_context, state_of};
+ghost use Rattle.hl_interpreter.specs.Runs.{Does, Gives, Meets, callees_behind, context_of, form_value, loop_left, plain_leaving, run_context, state_of, tests};
 
 use crate::atomics::{atomic_original, write_original};
 use crate::buffers::{load_four, store_four};
@@ -221,7 +221,7 @@ fn assigned(
     before: &[u32],
     words: Words,
 ) -> Result<Words, Stop>
-    ensures { (s : State) → Gives result s (assigned op (plain_ty common.now) (plain_ty to.now) before.now words s) }
+    ensures { (s : PlainState) → Gives result s (assigned op (plain_ty common.now) (plain_ty to.now) before.now words s) }
 {
     match op {
         Some(op) => {
@@ -671,15 +671,19 @@ fn condition_if(
 
 /// A value that isn't used is computed all the same.
 #[cycle(running)]
-fn computes_if(context: &Context, value: &Option<Expr>, state: &mut State) -> Result<(), Stop>
-    ensures { Meets (λ _. plain_leaving Leaving.AtEnd) result (state_of context.now.run.now.replies.now state.new) (computes_if (context_of context.now) (option_map plain_expr value.now) (state_of context.now.run.now.replies.now state.old)) }
+fn computes_if(
+    context: &Context,
+    value: &Option<Expr>,
+    state: &mut State,
+) -> Result<Leaving, Stop>
+    ensures { Meets plain_leaving result (state_of context.now.run.now.replies.now state.new) (computes_if (context_of context.now) (option_map plain_expr value.now) (state_of context.now.run.now.replies.now state.old)) }
 {
     match value {
         Some(value) => {
             evaluates(context, value, state)?;
-            Ok(())
+            Ok(Leaving::AtEnd)
         }
-        None => Ok(()),
+        None => Ok(Leaving::AtEnd),
     }
 }
 
@@ -786,13 +790,24 @@ fn for_loop(
         leaving => return Ok(leaving),
     }
     for _turn in 0..context.run.turns {
-        match for_turn(context, cond, step, body, state)? {
-            Leaving::AtEnd | Leaving::ByContinue => {}
-            Leaving::ByBreak => return Ok(Leaving::AtEnd),
-            Leaving::ByReturn(value) => return Ok(Leaving::ByReturn(value)),
+        let leaving = for_turn(context, cond, step, body, state)?;
+        if let Some(leaving) = behind_turn(leaving) {
+            return Ok(leaving);
         }
     }
     Err(Stop::Ends(Asked::Goes))
+}
+
+/// How a loop is left behind a turn that is left so, and none where another turn follows.
+fn behind_turn(leaving: Leaving) -> Option<Leaving>
+    ensures { (next : Doing) (s : PlainState) → then_loop next (plain_leaving leaving) s ≡ loop_left next result s }
+{
+    match leaving {
+        Leaving::AtEnd => None,
+        Leaving::ByContinue => None,
+        Leaving::ByBreak => Some(Leaving::AtEnd),
+        Leaving::ByReturn(value) => Some(Leaving::ByReturn(value)),
+    }
 }
 
 /// A turn of a `for`: the condition, the body, and the step, also where the body continues.
@@ -810,10 +825,8 @@ fn for_turn(
         return Ok(Leaving::ByBreak);
     }
     match does(context, body, state)? {
-        Leaving::AtEnd | Leaving::ByContinue => {
-            computes_if(context, step, state)?;
-            Ok(Leaving::AtEnd)
-        }
+        Leaving::AtEnd => computes_if(context, step, state),
+        Leaving::ByContinue => computes_if(context, step, state),
         leaving => Ok(leaving),
     }
 }
@@ -829,16 +842,31 @@ fn while_loop(
     ensures { Meets plain_leaving result (state_of context.now.run.now.replies.now state.new) (does (context_of context.now) context.now.run.now.turns (while_stmt (plain_expr cond.now) (plain_stmt body.now)) (state_of context.now.run.now.replies.now state.old)) }
 {
     for _turn in 0..context.run.turns {
-        if !condition(context, cond, state)? {
-            return Ok(Leaving::AtEnd);
-        }
-        match does(context, body, state)? {
-            Leaving::AtEnd | Leaving::ByContinue => {}
-            Leaving::ByBreak => return Ok(Leaving::AtEnd),
-            Leaving::ByReturn(value) => return Ok(Leaving::ByReturn(value)),
+        let leaving = while_turn(context, cond, body, state)?;
+        if let Some(leaving) = behind_turn(leaving) {
+            return Ok(leaving);
         }
     }
     Err(Stop::Ends(Asked::Goes))
+}
+
+/// A turn of a `while`: the condition, and the body.
+#[cycle(running)]
+fn while_turn(
+    context: &Context,
+    cond: &Expr,
+    body: &Stmt,
+    state: &mut State,
+) -> Result<Leaving, Stop>
+    ensures { Meets plain_leaving result (state_of context.now.run.now.replies.now state.new) (tested_turn (context_of context.now) (Some (plain_expr cond.now)) (λ s. does (context_of context.now) context.now.run.now.turns (plain_stmt body.now) s) None (state_of context.now.run.now.replies.now state.old)) }
+{
+    if !condition(context, cond, state)? {
+        return Ok(Leaving::ByBreak);
+    }
+    match does(context, body, state)? {
+        Leaving::ByContinue => Ok(Leaving::AtEnd),
+        leaving => Ok(leaving),
+    }
 }
 
 /// A `do`: in each turn the body, and then the condition, also where the body continues.
@@ -852,14 +880,39 @@ fn do_loop(
     ensures { Meets plain_leaving result (state_of context.now.run.now.replies.now state.new) (does (context_of context.now) context.now.run.now.turns (do_stmt (plain_stmt body.now) (plain_expr cond.now)) (state_of context.now.run.now.replies.now state.old)) }
 {
     for _turn in 0..context.run.turns {
-        match does(context, body, state)? {
-            Leaving::AtEnd | Leaving::ByContinue => {}
-            Leaving::ByBreak => return Ok(Leaving::AtEnd),
-            Leaving::ByReturn(value) => return Ok(Leaving::ByReturn(value)),
-        }
-        if !condition(context, cond, state)? {
-            return Ok(Leaving::AtEnd);
+        let leaving = do_turn(context, body, cond, state)?;
+        if let Some(leaving) = behind_turn(leaving) {
+            return Ok(leaving);
         }
     }
     Err(Stop::Ends(Asked::Goes))
+}
+
+/// A turn of a `do`: the body, and then the condition, also where the body continues.
+#[cycle(running)]
+fn do_turn(
+    context: &Context,
+    body: &Stmt,
+    cond: &Expr,
+    state: &mut State,
+) -> Result<Leaving, Stop>
+    ensures { Meets plain_leaving result (state_of context.now.run.now.replies.now state.new) (testing_turn (context_of context.now) (λ s. does (context_of context.now) context.now.run.now.turns (plain_stmt body.now) s) (plain_expr cond.now) (state_of context.now.run.now.replies.now state.old)) }
+{
+    match does(context, body, state)? {
+        Leaving::AtEnd => tests(context, cond, state),
+        Leaving::ByContinue => tests(context, cond, state),
+        leaving => Ok(leaving),
+    }
+}
+
+/// The condition of a `do`, behind which the loop goes on or breaks off.
+#[cycle(running)]
+fn tests(context: &Context, cond: &Expr, state: &mut State) -> Result<Leaving, Stop>
+    ensures { Meets plain_leaving result (state_of context.now.run.now.replies.now state.new) (tests (context_of context.now) (plain_expr cond.now) (state_of context.now.run.now.replies.now state.old)) }
+{
+    if condition(context, cond, state)? {
+        Ok(Leaving::AtEnd)
+    } else {
+        Ok(Leaving::ByBreak)
+    }
 }

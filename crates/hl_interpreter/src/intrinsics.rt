@@ -5,7 +5,7 @@ ghost use Rattle.lane_core.specs.declared.event.Event.TheVariants.{Barrier};
 ghost use Rattle.hl_meaning.specs.Views.{plain_ty};
 ghost use Rattle.hl_source.specs.Intrinsics.{absolute, clamped, greater, lesser, wave_words, work_of, worked};
 ghost use Rattle.hl_source.specs.Operations.{map_2, map_3};
-ghost use Rattle.hl_source.specs.State.{State, asks, no_value};
+ghost use Rattle.hl_source.specs.State.{State as PlainState, asks, no_value};
 ghost use Rattle.hl_interpreter.specs.HeldWorks.{plain_judgement, plain_one, plain_told, plain_two, plain_work};
 ghost use Rattle.hl_interpreter.specs.Runs.{Gives, lane_of, run_context, state_of};
 
@@ -256,7 +256,7 @@ fn with_three(
     low: &[u32],
     high: &[u32],
 ) -> Result<Words, Stop>
-    ensures { (s : State) → Gives result s (worked (run_context run.now) (plain_work work) (plain_ty ty.now) (words.now ∷ low.now ∷ high.now ∷ []) s) }
+    ensures { (s : PlainState) → Gives result s (worked (run_context run.now) (plain_work work) (plain_ty ty.now) (words.now ∷ low.now ∷ high.now ∷ []) s) }
 {
     match work {
         Work::Clamp => {

@@ -3,7 +3,7 @@
 ghost use Rattle.std.specs.Prelude.{◌≡◌, [], IfOk, slice_get, unwrap_or};
 ghost use Rattle.lane_core.specs.declared.event.Event.TheVariants.{SharedLoad};
 ghost use Rattle.hl_source.specs.Memory.{cell, constant_words, read_words, shared_size, within, word_of, word_offsets};
-ghost use Rattle.hl_source.specs.State.{State, asks_word, each};
+ghost use Rattle.hl_source.specs.State.{State as PlainState, asks_word, each};
 ghost use Rattle.hl_interpreter.specs.HeldPlaces.{plain_holder};
 ghost use Rattle.hl_interpreter.specs.Runs.{Gives, Meets, context_of, run_context, state_of};
 
@@ -54,7 +54,7 @@ fn variable_words(state: &State, number: u32) -> &[u32]
 /// # Errors
 /// The fault `OutOfBounds` at the first one that isn't there.
 fn words_from(alloc: Global, words: &[u32], offset: u32, count: u32) -> Result<Words, Stop>
-    ensures { (s : State) → Gives result s (each (word_of words.now) (word_offsets offset count) s) }
+    ensures { (s : PlainState) → Gives result s (each (word_of words.now) (word_offsets offset count) s) }
 {
     let mut found = Words::new(alloc);
     for more in 0..count {

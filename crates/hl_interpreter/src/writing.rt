@@ -4,7 +4,7 @@ ghost use Rattle.std.specs.Prelude.{◌≡◌, ℕ, ◌^◌, ◌<◌, ◌≤◌,
 ghost use Rattle.lane_core.specs.declared.event.Reply.{Reply};
 ghost use Rattle.lane_core.specs.declared.event.Event.TheVariants.{SharedStore};
 ghost use Rattle.hl_source.specs.Memory.{cell, shared_size, within, word_offsets, write_variable_word, write_words};
-ghost use Rattle.hl_source.specs.State.{State, asks, each, no_value, variable_words, with_variable};
+ghost use Rattle.hl_source.specs.State.{State as PlainState, asks, each, no_value, variable_words, with_variable};
 ghost use Rattle.hl_interpreter.specs.HeldPlaces.{plain_holder};
 ghost use Rattle.hl_interpreter.specs.Runs.{Does, context_of, run_context, state_of};
 
@@ -24,7 +24,7 @@ use std::mem;
 /// The fault `OutOfBounds` at the first one that isn't there.
 fn set_words(variable: &mut [u32], offset: u32, words: &[u32]) -> Result<(), Stop>
     requires { length words.now < 2 ^ 32 }
-    ensures { (number : ℕ) (s : State) → number < length s.variables → variable_words s number ≡ variable.old
+    ensures { (number : ℕ) (s : PlainState) → number < length s.variables → variable_words s number ≡ variable.old
         → Does result (with_variable number variable.new s) (no_value (each (λ w. write_variable_word number w.0 w.1) (zip (word_offsets offset (length words.now)) words.now) s)) }
 {
     for (more, word) in words.iter().enumerate() {
@@ -39,7 +39,7 @@ fn set_words(variable: &mut [u32], offset: u32, words: &[u32]) -> Result<(), Sto
 
 /// Words written to a variable that isn't there.
 fn set_nothing(words: &[u32]) -> Result<(), Stop>
-    ensures { (number : ℕ) (offset : ℕ) (s : State) → length s.variables ≤ number
+    ensures { (number : ℕ) (offset : ℕ) (s : PlainState) → length s.variables ≤ number
         → Does result s (no_value (each (λ w. write_variable_word number w.0 w.1) (zip (word_offsets offset (length words.now)) words.now) s)) }
 {
     if words.is_empty() {

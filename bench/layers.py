@@ -1,7 +1,10 @@
-"""Times the lexer, and the lexer with the parser behind it, on the sources of sources.py."""
+"""Times the lexer, and the lexer with the parser behind it, on the sources of sources.py, and both with the typing rules
+behind them on those of programs.py."""
 from dataclasses import dataclass
+import subprocess, sys
 
 from measure import instructions, memory_ratio, peak, seconds, shown
+from programs import WIDE, kernels
 from sources import DEEPEST, WIDEST, average, dense, tokens_of
 
 MOST_BYTES = 1048576
@@ -9,10 +12,11 @@ MOST_TOKENS = 262144
 # the average text of each size, the largest last
 HALVINGS = range(6, -1, -1)
 LAYERS = ['lex', 'parse']
+RULES = ['elaborate']
 
-# what the layers have to reach on the largest average text; the rest are ratios
-SPEED = {'lex': 20, 'parse': 8}
-INSTRUCTIONS = {'lex': 150, 'parse': 400}
+# what the layers have to reach on the largest average text, or the largest kernels; the rest are ratios
+SPEED = {'lex': 20, 'parse': 8, 'elaborate': 4}
+INSTRUCTIONS = {'lex': 150, 'parse': 400, 'elaborate': 1000}
 DOUBLED = 2.3
 OVER_AVERAGE = 3
 
@@ -50,8 +54,17 @@ class Judge:
             self.missed.append(f'{name}: {value:.2f}, and at most {most} is asked')
 
 
+def has_program(words, path):
+    """Ends the run where a source that is to break no typing rule breaks one."""
+    done = subprocess.run(words, input=path.read_bytes(), capture_output=True)
+    if done.stdout != b'program\n':
+        sys.exit(f'bench/run: {path}: {done.stdout!r}, {done.stderr!r}')
+
+
 def timed(program, layer, path, source, runs):
     words = [program, layer]
+    if layer == 'elaborate':
+        has_program(words, path)
     return Timed(path, len(source), tokens_of(source), seconds(words, path, runs), instructions(words, path))
 
 
@@ -81,20 +94,20 @@ def head(last):
           f' {"instr/token":>11} {"memory/size":>11} {last:>7}')
 
 
-def show_average(program, folder, idle, judge):
-    """Prints the rows of the average text in all sizes. What the layers take on the largest."""
+def show_sizes(program, folder, idle, judge, shape, make, layers):
+    """Prints the rows of a text in all sizes. What the layers take on the largest."""
     largest = {}
     head('doubled')
     for halving in HALVINGS:
-        source = average(MOST_BYTES >> halving, MOST_TOKENS >> halving)
-        path = folder / f'average-{halving}.hlsl'
+        source = make(MOST_BYTES >> halving, MOST_TOKENS >> halving)
+        path = folder / f'{shape}-{halving}.hlsl'
         path.write_bytes(source)
-        for layer in LAYERS:
+        for layer in layers:
             half = largest.get(layer)
             whole = largest[layer] = timed(program, layer, path, source, 10)
             ratio = None if half is None else doubled(program, layer, half, whole)
             judge.wants(f'{layer}, {whole.size} bytes, over half the size', ratio, DOUBLED)
-            row('average', layer, whole, memory_ratio([program, layer], path, idle), ratio)
+            row(shape, layer, whole, memory_ratio([program, layer], path, idle), ratio)
     for layer, one in largest.items():
         judge.wants(f'{layer}, instructions a byte', one.per_byte(), INSTRUCTIONS[layer])
         judge.wants(f'{layer}, seconds for {SPEED[layer]} MB', SPEED[layer] / one.speed(), 1)
@@ -116,16 +129,36 @@ def show_others(program, folder, idle, largest, judge):
             row(shape, layer, one, memory_ratio([program, layer], path, idle), ratio)
 
 
+def show_programs(program, folder, idle, judge):
+    """Prints the rows of the widest programs, each beside one of half the size."""
+    print()
+    head('doubled')
+    for shape, make in WIDE.items():
+        both = []
+        for halving in (1, 0):
+            source = make(MOST_BYTES >> halving, MOST_TOKENS >> halving)
+            path = folder / f'wide-{halving}.hlsl'
+            path.write_bytes(source)
+            both.append(timed(program, 'elaborate', path, source, 3))
+        ratio = doubled(program, 'elaborate', *both) if both[1].size > 1.9 * both[0].size else None
+        judge.wants(f'elaborate, {shape}, over half the size', ratio, DOUBLED)
+        row(shape, 'elaborate', both[1], memory_ratio([program, 'elaborate'], both[1].path, idle), ratio)
+
+
 def show(program, folder):
     """Prints the tables of the layers. Whether each target is met."""
     judge = Judge()
     nothing = folder / 'nothing.hlsl'
     nothing.write_bytes(b'')
     idle = peak([program, 'lex'], nothing)
-    largest = show_average(program, folder, idle, judge)
+    largest = show_sizes(program, folder, idle, judge, 'average', average, LAYERS)
     show_others(program, folder, idle, largest, judge)
+    print()
+    show_sizes(program, folder, idle, judge, 'kernels', kernels, RULES)
+    show_programs(program, folder, idle, judge)
     print(f'\naims: lex {SPEED["lex"]} MB/s and {INSTRUCTIONS["lex"]} instructions a byte, parse {SPEED["parse"]} and'
-          f' {INSTRUCTIONS["parse"]}, doubled {DOUBLED}, a token over that of the average text {OVER_AVERAGE}')
+          f' {INSTRUCTIONS["parse"]}, elaborate {SPEED["elaborate"]} and {INSTRUCTIONS["elaborate"]}, doubled {DOUBLED},'
+          f' a token over that of the average text {OVER_AVERAGE}')
     for line in judge.missed:
         print(f'missed: {line}')
     return not judge.missed

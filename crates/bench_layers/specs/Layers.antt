@@ -1,11 +1,12 @@
 -- The words that name a layer.
 use Rattle.std.specs.Prelude.{◌≢◌, ℕ, List, [], ◌∷◌, codes}
 use Rattle.bench_layers.specs.declared.layer.Layer.{Layer}
-use Rattle.bench_layers.specs.declared.layer.Layer.TheVariants.{Lex, Parse}
+use Rattle.bench_layers.specs.declared.layer.Layer.TheVariants.{Elaborate, Lex, Parse}
 
 abbrev pub words_of : Layer → List (List ℕ)
 words_of Lex = codes "lex" ∷ []
 words_of Parse = codes "parse" ∷ []
+words_of Elaborate = codes "elaborate" ∷ []
 
 -- the words name no layer
 abbrev pub IsNoLayer : List (List ℕ) → Type 0

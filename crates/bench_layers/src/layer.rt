@@ -10,6 +10,8 @@ pub(crate) enum Layer {
     Lex,
     /// The tree of its tokens.
     Parse,
+    /// The typed program of the tree, with the entry `main`.
+    Elaborate,
 }
 
 impl Layer {
@@ -32,6 +34,9 @@ impl Layer {
         }
         if word == "parse" {
             return Some(Layer::Parse);
+        }
+        if word == "elaborate" {
+            return Some(Layer::Elaborate);
         }
         None
     }

@@ -1,33 +1,24 @@
 -- What a text is compiled to, and why it isn't, from what the layers answer.
 use mathlib.Core.Logic.{inl, inr}
 use Rattle.std.proofs.Common.{◌≡◌, ◌∙◌, refl, sym, ap, subst, ℕ, ◌≤◌, List, length, arith}
-use Rattle.std.specs.Prelude.{◌⊎◌, IfOk, IfErr, Result, Ok, Err}
+use Rattle.std.specs.Prelude.{◌⊎◌, IfOk, IfErr, None, Result, Ok, Err}
+use Rattle.std.proofs.lemmas.Option.{none-some}
 use Rattle.base_core.specs.declared.place.Place.{Place}
 use Rattle.hl_lexer.specs.declared.fault.LexFault.{LexFault}
 use Rattle.hl_lexer.specs.declared.fault.LexFault.TheVariants.{BadByte, NumberTooLarge, TooManyTokens, Memory as NoRoomForTokens}
 use Rattle.hl_lexer.specs.declared.token.Tokens.{Tokens}
 use Rattle.hl_lexer.specs.Tokens.{GivesTokens, IsFirstFault, IsTokenList, Lexeme, lexemes_of, most_tokens}
 use Rattle.std.proofs.lemmas.Result.{IfErr-weaker}
-use Rattle.std.specs.Result.{IsErrAnd, IsErrOf}
-use Rattle.hl_parser.specs.Trees as plain
-use Rattle.hl_parser.specs.declared.fault.ParseFault.{ParseFault}
-use Rattle.dxil_driver.specs.declared.stores.FirstForm.{FirstForm}
+use Rattle.std.specs.Result.{IsErrOf}
+use Rattle.hl_meaning.specs.Programs as plain
+use Rattle.hl_meaning.specs.declared.program.Program.{Program}
+use Rattle.hl_rules.specs.Elaboration.{Elaborates}
 use Rattle.dxil_driver.specs.Compiled.{Compiled, HasFirstForm, most_source}
-use Rattle.dxil_driver.specs.CompileFaults.{HasFault, HasTokensFault, HasTreeFault, HaveFault, IsContainerOfTokens, IsContainerOfTree, SpellForm, SpellOther, of_tokens}
-use Rattle.dxil_driver.specs.FirstForm.{IsForm}
+use Rattle.dxil_driver.specs.CompileFaults.{GivesProgram, HasFault, HasTokensFault, HaveFault, HaveProgramFault, IsContainerOfProgram, IsContainerOfTokens, SpellForm, SpellOther, SpellProgram, of_tokens}
+use Rattle.dxil_driver.specs.FirstForm.{form_of}
 use Rattle.dxil_driver.specs.SourceText.{HasTokens, SpellTree}
 use Rattle.dxil_driver.specs.declared.compiler.CompileFault.{CompileFault}
-use Rattle.dxil_driver.specs.declared.compiler.CompileFault.TheVariants.{TooLong, Lex, Parse, Unbuilt, Memory}
-
--- an answer that is made of an error
-pub answered : {T : Type 0} (r : Result T CompileFault) (fault : CompileFault) → IsErrAnd r (λ x. x ≡ fault) → r ≡ Err fault
-answered (Ok value) fault h = absurd h
-answered (Err other) fault h = ap (λ (f : CompileFault). Err f) h
-
--- a value is no error
-pub no_error : {T E : Type 0} {value : T} {one other : E} → IsErrOf (Ok value) one ⊎ IsErrOf (Ok value) other → ⊥
-no_error (inl e) = cc
-no_error (inr e) = cc
+use Rattle.dxil_driver.specs.declared.compiler.CompileFault.TheVariants.{TooLong, Lex, Parse, Rule, Unbuilt, Memory}
 
 -- ---- texts without tokens
 
@@ -73,6 +64,7 @@ module _ (text entry : List ℕ) (within : length text ≤ most_source) (fault :
     by_answer (inl e) = inl (ap of_tokens (same_err other e) ∙ fault_of text other first)
     by_answer (inr e) = inr (ap of_tokens (same_err NoRoomForTokens e))
   lex_every lists faults (Parse other place) (less, (tokens, (end, has, h))) = inr (no_tokens lists tokens end has)
+  lex_every lists faults (Rule other place) (less, (tokens, (end, has, h))) = inr (no_tokens lists tokens end has)
   lex_every lists faults Unbuilt (less, (tokens, (end, has, h))) = inr (no_tokens lists tokens end has)
   lex_every lists faults Memory h = absurd h
 
@@ -92,7 +84,14 @@ module _ (text entry : List ℕ) (within : length text ≤ most_source) (found :
   unfolding Compiled
   lexed_compiled (Ok bytes) h = record {
     form = h.made.form;
-    is_form = record { tokens = lexemes_of found; tree = h.tree; has = record { end = found.end; lexed = lexed; tree-is = h.tree-is }; is_form = h.made.is_form };
+    is_form = record {
+      tokens = lexemes_of found;
+      tree = h.spelled.tree;
+      has = record { end = found.end; lexed = lexed; tree-is = h.spelled.tree-is };
+      program = h.program;
+      elaborated = h.spelled.elaborated;
+      is_form = h.made.is_form;
+    };
     kernel = h.made.kernel;
     container = h.made.container;
   }
@@ -103,10 +102,14 @@ module _ (text entry : List ℕ) (within : length text ≤ most_source) (found :
   lexed_form (form, is) =
       let same : is.tokens ≡ lexemes_of found = sym (every is.tokens is.has.end is.has.lexed.list is.has.lexed.few).0 in
       record {
-        tree = is.tree;
-        tree-is = subst (λ (ts : List Lexeme). SpellTree ts is.tree) same is.has.tree-is;
+        program = is.program;
+        spelled = record {
+          tree = is.tree;
+          tree-is = subst (λ (ts : List Lexeme). SpellTree ts is.tree) same is.has.tree-is;
+          elaborated = subst (λ (ts : List Lexeme). Elaborates is.tree ts entry is.program) same is.elaborated;
+        };
         form = form;
-        is_form = subst (λ (ts : List Lexeme). IsForm ts is.tree entry form) same is.is_form;
+        is_form = is.is_form;
       }
 
   pub lexed_fault : (r : Result (List ℕ) CompileFault) → IfErr r (λ fault. (fault ≡ Memory) ⊎ HaveFault (lexemes_of found) found.end entry fault)
@@ -116,6 +119,7 @@ module _ (text entry : List ℕ) (within : length text ≤ most_source) (found :
   lexed_fault (Err TooLong) (inr h) = absurd h
   lexed_fault (Err (Lex fault)) (inr h) = absurd h
   lexed_fault (Err (Parse fault place)) (inr h) = inr (within, (lexemes_of found, (found.end, lexed, h)))
+  lexed_fault (Err (Rule fault place)) (inr h) = inr (within, (lexemes_of found, (found.end, lexed, h)))
   lexed_fault (Err Unbuilt) (inr h) = inr (within, (lexemes_of found, (found.end, lexed, h)))
   lexed_fault (Err Memory) (inr h) = absurd h
 
@@ -125,39 +129,72 @@ module _ (text entry : List ℕ) (within : length text ≤ most_source) (found :
   lexed_every faults given TooLong long = absurd (omega (arith, long, within))
   lexed_every faults given (Lex fault) (less, first) = absurd (faults fault first)
   lexed_every faults given (Parse fault place) (less, h) = given (Parse fault place) (same_fault (Parse fault place) h)
+  lexed_every faults given (Rule fault place) (less, h) = given (Rule fault place) (same_fault (Rule fault place) h)
   lexed_every faults given Unbuilt (less, h) = given Unbuilt (same_fault Unbuilt h)
   lexed_every faults given Memory h = absurd h
 
--- ---- tokens with a tree
+-- ---- tokens with a program
 
-module _ (tokens : List Lexeme) (end : Place) (entry : List ℕ) (tree : plain.Tree) (every : (other : plain.Tree) → SpellTree tokens other → tree ≡ other)
-    (r : Result (List ℕ) CompileFault) where
-  pub tree_complete : IfErr r (λ fault. (fault ≡ Memory) ⊎ ((fault ≡ Unbuilt) × ((form : FirstForm) → ¬ IsForm tokens tree entry form)))
-      → SpellForm tokens entry → IfErr r (λ fault. fault ≡ Memory)
-  tree_complete none h =
-      IfErr-weaker r (λ fault. (fault ≡ Memory) ⊎ ((fault ≡ Unbuilt) × ((form : FirstForm) → ¬ IsForm tokens tree entry form))) (λ fault. fault ≡ Memory) (λ fault. by_case fault) none
-    where
-      by_case : (fault : CompileFault) → (fault ≡ Memory) ⊎ ((fault ≡ Unbuilt) × ((form : FirstForm) → ¬ IsForm tokens tree entry form)) → fault ≡ Memory
-      by_case fault (inl memory) = memory
-      by_case fault (inr (unbuilt, not)) = absurd (not h.form (subst (λ (t : plain.Tree). IsForm tokens t entry h.form) (sym (every h.tree h.tree-is)) h.is_form))
+-- an answer about a program's form: the program has none, or memory ran out
+abbrev pub IsFormless : plain.Program → CompileFault → Type 0
+IsFormless program fault = (fault ≡ Memory) ⊎ ((fault ≡ Unbuilt) × (form_of program ≡ None))
 
-  other_named : SpellOther tokens entry → IfOk r (IsContainerOfTree tokens tree entry)
-      → IfErr r (λ fault. (fault ≡ Memory) ⊎ ((fault ≡ Unbuilt) × ((form : FirstForm) → ¬ IsForm tokens tree entry form)))
-      → IsErrOf r Unbuilt ⊎ IsErrOf r Memory
+module _ (tokens : List Lexeme) (end : Place) (entry : List ℕ) (program : plain.Program)
+    (every : (other : plain.Program) → SpellProgram tokens entry other → program ≡ other) (r : Result (List ℕ) CompileFault) where
+  pub program_complete : IfErr r (IsFormless program) → SpellForm tokens entry → IfErr r (λ fault. fault ≡ Memory)
+  program_complete none h = IfErr-weaker r (IsFormless program) (λ fault. fault ≡ Memory) by_case none where
+    by_case : (fault : CompileFault) → IsFormless program fault → fault ≡ Memory
+    by_case fault (inl memory) = memory
+    by_case fault (inr (unbuilt, not)) = absurd (none-some h.form (sym not ∙ (ap form_of (every h.program h.spelled) ∙ h.is_form)))
+
+  other_named : SpellOther tokens entry → IfOk r (IsContainerOfProgram program) → IfErr r (IsFormless program) → IsErrOf r Unbuilt ⊎ IsErrOf r Memory
   other_named h made none = by_answer r refl made none where
-    by_answer : (answer : Result (List ℕ) CompileFault) → r ≡ answer → IfOk answer (IsContainerOfTree tokens tree entry)
-        → IfErr answer (λ fault. (fault ≡ Memory) ⊎ ((fault ≡ Unbuilt) × ((form : FirstForm) → ¬ IsForm tokens tree entry form)))
-        → IsErrOf r Unbuilt ⊎ IsErrOf r Memory
-    by_answer (Ok bytes) e m n = absurd (h.other m.form (subst (λ (t : plain.Tree). IsForm tokens t entry m.form) (every h.tree h.tree-is) m.is_form))
+    by_answer : (answer : Result (List ℕ) CompileFault) → r ≡ answer → IfOk answer (IsContainerOfProgram program) → IfErr answer (IsFormless program) → IsErrOf r Unbuilt ⊎ IsErrOf r Memory
+    by_answer (Ok bytes) e m n = absurd (none-some m.form (sym h.other ∙ (sym (ap form_of (every h.program h.spelled)) ∙ m.is_form)))
     by_answer (Err fault) e m (inl memory) = inr (e ∙ ap (λ (f : CompileFault). Err f) memory)
     by_answer (Err fault) e m (inr n) = inl (e ∙ ap (λ (f : CompileFault). Err f) n.0)
 
-  pub tree_every : ((fault : ParseFault) (place : Place) → HasTreeFault tokens end fault place → ⊥)
-      → IfOk r (IsContainerOfTree tokens tree entry)
-      → IfErr r (λ fault. (fault ≡ Memory) ⊎ ((fault ≡ Unbuilt) × ((form : FirstForm) → ¬ IsForm tokens tree entry form)))
+  pub program_every : ((fault : CompileFault) → HaveProgramFault tokens end entry fault → ⊥) → IfOk r (IsContainerOfProgram program) → IfErr r (IsFormless program)
       → (fault : CompileFault) → HaveFault tokens end entry fault → IsErrOf r fault ⊎ IsErrOf r Memory
-  tree_every never made none (Parse fault place) h = absurd (never fault place h)
-  tree_every never made none Unbuilt h = other_named h made none
-  tree_every never made none TooLong h = absurd h
-  tree_every never made none (Lex fault) h = absurd h
-  tree_every never made none Memory h = absurd h
+  program_every never made none (Parse fault place) h = absurd (never (Parse fault place) h)
+  program_every never made none (Rule fault place) h = absurd (never (Rule fault place) h)
+  program_every never made none Unbuilt h = other_named h made none
+  program_every never made none TooLong h = absurd h
+  program_every never made none (Lex fault) h = absurd h
+  program_every never made none Memory h = absurd h
+
+-- ---- tokens without a program
+
+-- the answer that is a fault
+abbrev pub no_value : CompileFault → Result Program CompileFault
+no_value fault = Err fault
+
+module _ (tokens : List Lexeme) (end : Place) (entry : List ℕ) (fault : CompileFault) (every : (program : plain.Program) → SpellProgram tokens entry program → GivesProgram (Err fault) program) where
+  no_program : (f : CompileFault) (program : plain.Program) → GivesProgram (Err f) program → f ≡ Memory
+  no_program Memory program h = refl
+  no_program TooLong program h = absurd h
+  no_program (Lex other) program h = absurd h
+  no_program (Parse other place) program h = absurd h
+  no_program (Rule other place) program h = absurd h
+  no_program Unbuilt program h = absurd h
+
+  pub failed_complete : SpellForm tokens entry → fault ≡ Memory
+  failed_complete h = no_program fault h.program (every h.program h.spelled)
+
+  pub failed_every : ((other : CompileFault) → HaveProgramFault tokens end entry other → (no_value fault ≡ no_value other) ⊎ (no_value fault ≡ no_value Memory))
+      → (other : CompileFault) → HaveFault tokens end entry other → (fault ≡ other) ⊎ (fault ≡ Memory)
+  failed_every given other h = by_fault other h where
+    same_value : (answer : CompileFault) → no_value fault ≡ no_value answer → fault ≡ answer
+    same_value answer e = cc
+
+    answers : (answer : CompileFault) → (no_value fault ≡ no_value answer) ⊎ (no_value fault ≡ no_value Memory) → (fault ≡ answer) ⊎ (fault ≡ Memory)
+    answers answer (inl e) = inl (same_value answer e)
+    answers answer (inr e) = inr (same_value Memory e)
+
+    by_fault : (answer : CompileFault) → HaveFault tokens end entry answer → (fault ≡ answer) ⊎ (fault ≡ Memory)
+    by_fault (Parse found place) h = answers (Parse found place) (given (Parse found place) h)
+    by_fault (Rule found place) h = answers (Rule found place) (given (Rule found place) h)
+    by_fault Unbuilt h = inr (no_program fault h.program (every h.program h.spelled))
+    by_fault TooLong h = absurd h
+    by_fault (Lex found) h = absurd h
+    by_fault Memory h = absurd h

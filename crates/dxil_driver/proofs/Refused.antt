@@ -17,7 +17,7 @@ use Rattle.dxil_driver.specs.declared.checker.CheckFault.TheVariants.{Container 
 use Rattle.dxil_driver.specs.declared.command.Command.{Command}
 use Rattle.dxil_driver.specs.declared.command.Command.TheVariants.{Check}
 use Rattle.dxil_driver.specs.declared.refusal.Refusal.{Refusal}
-use Rattle.dxil_driver.specs.declared.refusal.Refusal.TheVariants.{Usage, ReadFault, TooLong, BadByte, NumberTooLarge, TooManyTokens, Syntax, TooDeep, NotBuilt, Container, Stream, Records, Broken, Memory}
+use Rattle.dxil_driver.specs.declared.refusal.Refusal.TheVariants.{Usage, ReadFault, TooLong, BadByte, NumberTooLarge, TooManyTokens, Syntax, TooDeep, Rule, NotBuilt, Container, Stream, Records, Broken, Memory}
 use Rattle.dxil_driver.specs.declared.status.Status.{Status}
 use Rattle.dxil_driver.specs.declared.status.Status.TheVariants.{WriteFault}
 
@@ -36,6 +36,7 @@ refuses_fails bytes (NumberTooLarge place) r = absurd r
 refuses_fails bytes TooManyTokens r = absurd r
 refuses_fails bytes (Syntax place) r = absurd r
 refuses_fails bytes TooDeep r = absurd r
+refuses_fails bytes (Rule rule place) r = absurd r
 refuses_fails bytes NotBuilt r = absurd r
 refuses_fails bytes Memory r = absurd r
 refuses_fails bytes (Container fault) r = (BadContainer fault, in_container fault r)
@@ -81,6 +82,7 @@ not_fault (NumberTooLarge place) same = cc
 not_fault TooManyTokens same = cc
 not_fault (Syntax place) same = cc
 not_fault TooDeep same = cc
+not_fault (Rule rule place) same = cc
 not_fault NotBuilt same = cc
 not_fault (Container fault) same = cc
 not_fault (Stream kind bit) same = cc
@@ -106,6 +108,7 @@ stands left taken faults old new words command (NumberTooLarge place) asked caus
 stands left taken faults old new words command TooManyTokens asked cause = (command, asked, cause)
 stands left taken faults old new words command (Syntax place) asked cause = (command, asked, cause)
 stands left taken faults old new words command TooDeep asked cause = (command, asked, cause)
+stands left taken faults old new words command (Rule rule place) asked cause = (command, asked, cause)
 stands left taken faults old new words command NotBuilt asked cause = (command, asked, cause)
 stands left taken faults old new words command (Container fault) asked cause = (command, asked, cause)
 stands left taken faults old new words command (Stream kind bit) asked cause = (command, asked, cause)

@@ -6,6 +6,7 @@ use Rattle.std.proofs.lemmas.Result.{IfErr-weaker}
 use Rattle.std.specs.Result.{IsErrOf}
 use Rattle.hl_lexer.specs.declared.fault.LexFault.TheVariants.{BadByte as NoToken, NumberTooLarge as LargeNumber, TooManyTokens as MoreTokens}
 use Rattle.hl_parser.specs.declared.fault.ParseFault.TheVariants.{Syntax as NoProgram, TooDeep as DeepTree}
+use Rattle.hl_types.specs.declared.fault.RuleFault.TheVariants.{Broken as BrokenRule}
 use Rattle.dxil_driver.specs.Commands.{IsRefusedText, Refuses, limit_of}
 use Rattle.dxil_driver.specs.Compiled.{most_source}
 use Rattle.dxil_driver.specs.CompileFaults.{HasFault}
@@ -15,13 +16,13 @@ use Rattle.dxil_driver.specs.Tool.{IsBadInput, IsTooLong, StandsFor, TakesAll, T
 use Rattle.dxil_driver.specs.declared.command.Command.{Command}
 use Rattle.dxil_driver.specs.declared.command.Command.TheVariants.{Check, Compile}
 use Rattle.dxil_driver.specs.declared.compiler.CompileFault.{CompileFault}
-use Rattle.dxil_driver.specs.declared.compiler.CompileFault.TheVariants.{Lex, Parse, Unbuilt, Memory as NoRoomToCompile}
+use Rattle.dxil_driver.specs.declared.compiler.CompileFault.TheVariants.{Lex, Parse, Rule as BadProgram, Unbuilt, Memory as NoRoomToCompile}
 use Rattle.dxil_driver.specs.declared.options.Options.{Options}
 use Rattle.dxil_driver.specs.declared.refusal.Refusal.{Refusal}
-use Rattle.dxil_driver.specs.declared.refusal.Refusal.TheVariants.{Usage, ReadFault, TooLong, BadByte, NumberTooLarge, TooManyTokens, Syntax, TooDeep, NotBuilt, Container, Stream, Records, Broken, Memory}
+use Rattle.dxil_driver.specs.declared.refusal.Refusal.TheVariants.{Usage, ReadFault, TooLong, BadByte, NumberTooLarge, TooManyTokens, Syntax, TooDeep, Rule, NotBuilt, Container, Stream, Records, Broken, Memory}
 use Rattle.dxil_driver.specs.declared.status.Status.{Status}
 use Rattle.dxil_driver.specs.declared.status.Status.TheVariants.{Refused, WriteFault, Memory as MemoryStatus}
-use Rattle.dxil_driver.proofs.Compiling.{no_error}
+use Rattle.dxil_driver.proofs.Errors.{no_error}
 
 module _ (text : List ℕ) (options : Options) (within : length text ≤ most_source) where
   -- the refusal of a source is one of its faults
@@ -34,6 +35,7 @@ module _ (text : List ℕ) (options : Options) (within : length text ≤ most_so
   source_fault TooManyTokens r = (Lex MoreTokens, (within, r))
   source_fault (Syntax place) (tokens, (end, has, (at, broken))) = (Parse (NoProgram at) place, (within, (tokens, (end, has, broken))))
   source_fault TooDeep (tokens, (end, has, deep)) = (Parse DeepTree start, (within, (tokens, (end, has, (deep, refl)))))
+  source_fault (Rule rule place) (at, h) = (BadProgram (BrokenRule rule at) place, (within, h))
   source_fault NotBuilt r = (Unbuilt, (within, r))
   source_fault (Container fault) r = absurd r
   source_fault (Stream kind bit) r = absurd r
@@ -70,6 +72,7 @@ module _ {I : Type 0} (left : I → Option (List ℕ)) (taken faults : I → ℕ
   refusal_stands input TooManyTokens takes within r = (input, takes, within, r)
   refusal_stands input (Syntax place) takes within r = (input, takes, within, r)
   refusal_stands input TooDeep takes within r = (input, takes, within, r)
+  refusal_stands input (Rule rule place) takes within r = (input, takes, within, r)
   refusal_stands input NotBuilt takes within r = (input, takes, within, r)
   refusal_stands input (Container fault) takes within r = (input, takes, within, r)
   refusal_stands input (Stream kind bit) takes within r = (input, takes, within, r)
@@ -98,6 +101,7 @@ module _ {I : Type 0} (left : I → Option (List ℕ)) (taken faults : I → ℕ
   refused_input TooManyTokens cause same = inr (TooManyTokens, cause)
   refused_input (Syntax place) cause same = inr (Syntax place, cause)
   refused_input TooDeep cause same = inr (TooDeep, cause)
+  refused_input (Rule rule place) cause same = inr (Rule rule place, cause)
   refused_input NotBuilt cause same = inr (NotBuilt, cause)
   refused_input (Container fault) cause same = inr (Container fault, cause)
   refused_input (Stream kind bit) cause same = inr (Stream kind bit, cause)

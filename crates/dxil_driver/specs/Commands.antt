@@ -6,7 +6,7 @@ use Rattle.hl_lexer.specs.declared.fault.LexFault.TheVariants.{BadByte as NoToke
 use Rattle.dx_container.specs.Container.{FaultIs}
 use Rattle.dxil_driver.specs.Check.{HasStreamFault, HasRecordFault, HasVerdict, Passes}
 use Rattle.dxil_driver.specs.Compiled.{most_source, HasFirstForm, Compiled}
-use Rattle.dxil_driver.specs.CompileFaults.{HasTokensFault}
+use Rattle.dxil_driver.specs.CompileFaults.{BreaksRule, HasTokensFault}
 use Rattle.dxil_driver.specs.Options.{Chooses}
 use Rattle.dxil_driver.specs.Refusal.{line}
 use Rattle.dxil_driver.specs.SourceText.{HasSyntaxFault, IsTooDeep}
@@ -15,7 +15,7 @@ use Rattle.dxil_driver.specs.declared.command.Command.TheVariants.{Compile, Chec
 use Rattle.dxil_driver.specs.declared.compiler.CompileFault.TheVariants.{Unbuilt}
 use Rattle.dxil_driver.specs.declared.options.Options.{Options}
 use Rattle.dxil_driver.specs.declared.refusal.Refusal.{Refusal}
-use Rattle.dxil_driver.specs.declared.refusal.Refusal.TheVariants.{BadByte, NumberTooLarge, TooManyTokens, Syntax, TooDeep, NotBuilt, Container, Stream, Records, Broken}
+use Rattle.dxil_driver.specs.declared.refusal.Refusal.TheVariants.{BadByte, NumberTooLarge, TooManyTokens, Syntax, TooDeep, Rule, NotBuilt, Container, Stream, Records, Broken}
 
 -- the words ask for a command: `compile` and its options, or `check` alone
 pub data Asks : List (List ℕ) → Command → Type 0 where
@@ -56,6 +56,7 @@ Refuses (Compile options) text (NumberTooLarge place) = IsFirstFault text (Large
 Refuses (Compile options) text TooManyTokens = IsFirstFault text MoreTokens
 Refuses (Compile options) text (Syntax place) = HasSyntaxFault text place
 Refuses (Compile options) text TooDeep = IsTooDeep text
+Refuses (Compile options) text (Rule rule place) = BreaksRule text options.entry rule place
 Refuses (Compile options) text NotBuilt = HasTokensFault text options.entry Unbuilt
 Refuses Check bytes (Container fault) = FaultIs bytes fault.kind fault.offset
 Refuses Check bytes (Stream kind bit) = HasStreamFault bytes kind bit

@@ -22,7 +22,7 @@ use Rattle.dxil_driver.specs.LiteralLane.{literal_stores}
 abbrev pub most_source : ℕ
 most_source = 1048576
 
--- the text is of the form that is compiled so far, with an entry of this name
+-- the text has a program of the form that is compiled so far, with an entry of this name
 unfoldable pub HasFirstForm : (text entry : List ℕ) → Type 0
 HasFirstForm text entry = (form : FirstForm) × IsFirstForm text entry form
 

@@ -1,141 +1,118 @@
--- Texts of the first form: an entry of literal stores to one byte-address buffer.
+-- Programs of the first form: an entry of literal stores to one byte-address buffer.
 --
--- At most one buffer stands before one function, the entry. Its group is a literal size, and each of its statements
--- is a store of a literal word at a literal address of the buffer.
-use Rattle.std.specs.Prelude.{◌≡◌, ℕ, ◌*◌, ◌≤◌, Bool, List, [], ◌∷◌, slice_get, Option, Some, None, codes}
-use Rattle.hl_lexer.specs.declared.token.TokenKind.TheVariants.{Name, Number}
+-- The program has no struct, groupshared variable or constant, at most one buffer, and one function, which is its entry
+-- and has no parameters. Each statement of it is a store of a literal word at a literal address of the buffer.
+use Rattle.std.specs.Prelude.{◌≡◌, ℕ, ◌==◌, ◌&&◌, Bool, true, false, if◌then◌else◌, List, [], ◌∷◌, Option, Some, None, option_map, option_and_then}
 use Rattle.hl_lexer.specs.Tokens.{Lexeme}
-use Rattle.hl_parser.specs.Trees.{Tree, Trees, no_trees, more_trees, absent, present, a_program, an_item, a_buffer, a_kind, a_function, a_result, an_attribute, a_block, a_stmt, a_postfix, a_primary, an_args}
+use Rattle.hl_parser.specs.Trees.{Tree}
+use Rattle.hl_meaning.specs.Programs.{FunctionDef, Program, Resource}
+use Rattle.hl_meaning.specs.Trees.{Expr, Form, MaybeExpr, Stmt, Stmts, an_expr, convert_form, literal_form, method_form, more_stmts, no_expr, no_stmts, run_stmt, some_expr}
+use Rattle.hl_rules.specs.Elaboration.{Elaborates}
 use Rattle.dxil_driver.specs.declared.stores.LiteralStore.{LiteralStore}
 use Rattle.dxil_driver.specs.declared.stores.FirstForm.{FirstForm}
 use Rattle.dxil_driver.specs.SourceText.{HasTree}
 
--- ---- tokens of a tree
+abbrev pub is_empty : {A : Type 0} → List A → Bool
+is_empty [] = true
+is_empty (x ∷ xs) = false
 
--- the token at an index has these bytes
-pub record HasBytes (tokens : List Lexeme) (index : ℕ) (bytes : List ℕ) : Type 0 where
-  pub token : Lexeme
-  pub stands : slice_get tokens index ≡ Some token
-  pub text : token.text ≡ bytes
+-- ---- stores
 
--- the token at an index is a name with these bytes
-pub record IsNamed (tokens : List Lexeme) (index : ℕ) (bytes : List ℕ) : Type 0 where
-  pub token : Lexeme
-  pub stands : slice_get tokens index ≡ Some token
-  pub kind : token.kind ≡ Name
-  pub text : token.text ≡ bytes
+-- the word of a literal
+abbrev pub literal_word : Form → Option ℕ
+literal_word (literal_form word) = Some word
+literal_word _ = None
 
--- an expression is a number alone, spelled in any way
-pub record IsLiteral (tokens : List Lexeme) (tree : Tree) (value : ℕ) : Type 0 where
-  pub at : ℕ
-  pub form : tree ≡ a_primary at absent absent
-  pub token : Lexeme
-  pub stands : slice_get tokens at ≡ Some token
-  pub unsigned : Bool
-  pub kind : token.kind ≡ Number value unsigned
+-- the form of what is converted, which is a literal of another kind; any other form is itself
+abbrev pub unconverted : Form → Form
+unconverted (convert_form (an_expr ty at form)) = form
+unconverted form = form
 
--- ---- parts of a program
+-- The word of an address or of what is stored, where it is a literal. Both are of the type uint, since the program is
+-- well formed, and a literal that is converted to it keeps its word.
+abbrev pub word_of : Expr → Option ℕ
+word_of (an_expr ty at form) = literal_word (unconverted form)
 
--- `RWByteAddressBuffer NAME : register(u0);`
-pub record IsBuffer (tokens : List Lexeme) (tree : Tree) (name : List ℕ) : Type 0 where
-  pub at : ℕ
-  pub word : ℕ
-  pub index : ℕ
-  pub register : ℕ
-  pub form : tree ≡ a_buffer at (a_kind word absent) index (Some register) None
-  pub kind : HasBytes tokens word (codes "RWByteAddressBuffer")
-  pub named : IsNamed tokens index name
-  pub first : IsNamed tokens register (codes "u0")
+abbrev pub a_store : (address word : Option ℕ) → Option LiteralStore
+a_store address word = option_and_then (λ a. option_map (λ w. record { address = a; word = w }) word) address
 
--- a program of the entry alone, or of a buffer before it that has another name
-pub data AreItems (tokens : List Lexeme) (entry : List ℕ) (tree : Tree) (buffer : Option (List ℕ)) (function : Tree) : Type 0 where
-  entry_alone : (at item : ℕ) → tree ≡ a_program at (more_trees (an_item item function) no_trees) → buffer ≡ None → AreItems tokens entry tree buffer function
-  buffer_first : (at first second : ℕ) (declared : Tree) (name : List ℕ) → tree ≡ a_program at (more_trees (an_item first declared) (more_trees (an_item second function) no_trees)) → IsBuffer tokens declared name → ¬ (name ≡ entry) → buffer ≡ Some name → AreItems tokens entry tree buffer function
+-- the store of one word to the buffer of number 0
+abbrev pub one_word : (resource count : ℕ) → (address value : Expr) → Option LiteralStore
+one_word resource count address value = if resource == 0 && count == 1 then a_store (word_of address) (word_of value) else None
 
--- a group has three sizes, x and y from 1 to 1024, z from 1 to 64, and at most 1024 threads
-pub record IsGroupSize (x y z : ℕ) : Type 0 where
-  pub some_x : 1 ≤ x
-  pub most_x : x ≤ 1024
-  pub some_y : 1 ≤ y
-  pub most_y : y ≤ 1024
-  pub some_z : 1 ≤ z
-  pub most_z : z ≤ 64
-  pub most : x * y * z ≤ 1024
+abbrev pub stored : (resource count : ℕ) → (address : Expr) → MaybeExpr → Option LiteralStore
+stored resource count address no_expr = None
+stored resource count address (some_expr value) = one_word resource count address value
 
--- `[numthreads(X, Y, Z)]`
-pub record IsGroup (tokens : List Lexeme) (attributes : Trees) (threads : List ℕ) : Type 0 where
-  pub at : ℕ
-  pub index : ℕ
-  pub first : Tree
-  pub second : Tree
-  pub third : Tree
-  pub form : attributes ≡ more_trees (an_attribute at index (more_trees first (more_trees second (more_trees third no_trees)))) no_trees
-  pub named : IsNamed tokens index (codes "numthreads")
-  pub x : ℕ
-  pub y : ℕ
-  pub z : ℕ
-  pub x-is : IsLiteral tokens first x
-  pub y-is : IsLiteral tokens second y
-  pub z-is : IsLiteral tokens third z
-  pub size : IsGroupSize x y z
-  pub threads-are : threads ≡ x ∷ y ∷ z ∷ []
+-- `Store` of two literals
+abbrev pub form_store : Form → Option LiteralStore
+form_store (method_form resource count address value) = stored resource count address value
+form_store _ = None
 
--- the function `[numthreads(X, Y, Z)] void NAME() { STATEMENTS }`
-pub record IsEntry (tokens : List Lexeme) (tree : Tree) (entry threads : List ℕ) (statements : Trees) : Type 0 where
-  pub at : ℕ
-  pub void : ℕ
-  pub index : ℕ
-  pub brace : ℕ
-  pub attributes : Trees
-  pub form : tree ≡ a_function at attributes (a_result void absent) index no_trees (a_block brace statements)
-  pub named : IsNamed tokens index entry
-  pub group : IsGroup tokens attributes threads
+abbrev pub expr_store : Expr → Option LiteralStore
+expr_store (an_expr ty at form) = form_store form
 
--- `NAME.Store(ADDRESS, WORD);`
-pub record IsStore (tokens : List Lexeme) (buffer : List ℕ) (tree : Tree) (store : LiteralStore) : Type 0 where
-  pub at : ℕ
-  pub call : ℕ
-  pub target : ℕ
-  pub dot : ℕ
-  pub method : ℕ
-  pub parenthesis : ℕ
-  pub first : Tree
-  pub second : Tree
-  pub form : tree ≡ a_stmt at (present (a_postfix call (a_primary target absent absent) dot (Some method) (present (an_args parenthesis (more_trees first (more_trees second no_trees))))))
-  pub on : IsNamed tokens target buffer
-  pub named : IsNamed tokens method (codes "Store")
-  pub address : IsLiteral tokens first store.address
-  pub word : IsLiteral tokens second store.word
+abbrev pub store_of : Stmt → Option LiteralStore
+store_of (run_stmt value) = expr_store value
+store_of _ = None
 
--- each statement is a store to the buffer
-abbrev pub AreStores : List Lexeme → List ℕ → Trees → List LiteralStore → Type 0
-AreStores tokens buffer no_trees [] = Unit {0}
-AreStores tokens buffer no_trees (store ∷ stores) = ⊥
-AreStores tokens buffer (more_trees statement statements) [] = ⊥
-AreStores tokens buffer (more_trees statement statements) (store ∷ stores) = IsStore tokens buffer statement store × AreStores tokens buffer statements stores
+-- the stores that statements are, where each of them is one
+abbrev pub stores_of : Stmts → Option (List LiteralStore)
+stores_of no_stmts = Some []
+stores_of (more_stmts first rest) = option_and_then (λ store. option_map (λ stores. store ∷ stores) (stores_of rest)) (store_of first)
 
 -- without a buffer there is no statement
-abbrev pub HasStores : List Lexeme → Option (List ℕ) → Trees → List LiteralStore → Type 0
-HasStores tokens None statements stores = (statements ≡ no_trees) × (stores ≡ [])
-HasStores tokens (Some buffer) statements stores = AreStores tokens buffer statements stores
+abbrev pub stores_with : Option (List ℕ) → Stmts → Option (List LiteralStore)
+stores_with None no_stmts = Some []
+stores_with None (more_stmts first rest) = None
+stores_with (Some buffer) statements = stores_of statements
 
 -- ---- programs
 
--- the tree of these tokens is a first form for an entry of this name
-pub record IsForm (tokens : List Lexeme) (tree : Tree) (entry : List ℕ) (form : FirstForm) : Type 0 where
-  pub function : Tree
-  pub statements : Trees
-  pub items : AreItems tokens entry tree form.buffer function
-  pub entry-is : IsEntry tokens function entry form.threads statements
-  pub stores : HasStores tokens form.buffer statements form.stores
-  pub same : form.entry ≡ entry
+abbrev pub is_zero : Option ℕ → Bool
+is_zero None = false
+is_zero (Some number) = number == 0
 
--- the text has a tree, and it is a first form for an entry of this name
+-- a byte-address buffer that may be written, at register 0 of space 0
+abbrev pub is_output : Resource → Bool
+is_output r = r.raw && (r.class == 1 && (r.space == 0 && is_zero r.register))
+
+-- the name of the buffer, where there is one
+abbrev pub buffer_of : List Resource → Option (Option (List ℕ))
+buffer_of [] = Some None
+buffer_of (r ∷ []) = if is_output r then Some (Some r.name) else None
+buffer_of (r ∷ other ∷ resources) = None
+
+-- the only function, which has no parameters; it is the entry, since the program has one
+abbrev pub entry_of : List FunctionDef → Option FunctionDef
+entry_of [] = None
+entry_of (f ∷ []) = if is_empty f.parameters then Some f else None
+entry_of (f ∷ other ∷ functions) = None
+
+-- the form of a program by its parts
+abbrev pub form_with : (buffer : Option (List ℕ)) → FunctionDef → (threads : List ℕ) → Option FirstForm
+form_with buffer f threads =
+    option_map (λ stores. record { entry = f.name; buffer = buffer; threads = threads; stores = stores }) (stores_with buffer f.body)
+
+-- whether there is no struct, groupshared variable or constant
+abbrev pub is_alone : Program → Bool
+is_alone p = is_empty p.structs && (is_empty p.shared && is_empty p.constants)
+
+abbrev pub form_between : Program → Option FirstForm
+form_between p = option_and_then (λ buffer. option_and_then (λ f. form_with buffer f p.threads) (entry_of p.functions)) (buffer_of p.resources)
+
+-- the first form of a program, where it has one
+unfoldable pub form_of : Program → Option FirstForm
+form_of p = if is_alone p then form_between p else None
+
+-- the text has a tree that breaks no rule, and what it is elaborated to has this first form
 pub record IsFirstForm (text entry : List ℕ) (form : FirstForm) : Type 0 where
   pub tokens : List Lexeme
   pub tree : Tree
   pub has : HasTree text tokens tree
-  pub is_form : IsForm tokens tree entry form
+  pub program : Program
+  pub elaborated : Elaborates tree tokens entry program
+  pub is_form : form_of program ≡ Some form
 
 -- stores are there only with a buffer
 abbrev pub HasBuffer : Option (List ℕ) → List LiteralStore → Type 0

@@ -6,16 +6,17 @@ use Rattle.ir_core.specs.Spots.{spot_text}
 use Rattle.base_core.specs.declared.place.Place.{Place}
 use Rattle.hl_lexer.specs.declared.fault.LexFault.TheVariants.{BadByte as NoToken, NumberTooLarge as LargeNumber, TooManyTokens as MoreTokens, Memory as NoRoomForTokens}
 use Rattle.hl_parser.specs.declared.fault.ParseFault.TheVariants.{Syntax as NoProgram, TooDeep as DeepTree, Memory as NoRoomForTree}
+use Rattle.hl_types.specs.declared.fault.RuleFault.TheVariants.{Broken as BrokenRule, Memory as NoRoomForProgram}
 use Rattle.bc_stream.specs.declared.fault.StreamFault.TheVariants.{Bad as BadStream, Memory as NoRoomForBlocks}
 use Rattle.bc_records.specs.declared.fault.RecordFault.TheVariants.{Bad as BadRecord, Memory as NoRoomForRecords}
 use Rattle.dxil_driver.specs.declared.checker.CheckFault.{CheckFault}
 use Rattle.dxil_driver.specs.declared.checker.CheckFault.TheVariants.{Container as BadContainer, Stream as BadBitcode, Records as BadBlocks, Rules as BadModule, Memory as NoRoomToCheck}
 use Rattle.dxil_driver.specs.declared.compiler.CompileFault.{CompileFault}
-use Rattle.dxil_driver.specs.declared.compiler.CompileFault.TheVariants.{TooLong as TextTooLong, Lex, Parse, Unbuilt, Memory as NoRoomToCompile}
+use Rattle.dxil_driver.specs.declared.compiler.CompileFault.TheVariants.{TooLong as TextTooLong, Lex, Parse, Rule as BadProgram, Unbuilt, Memory as NoRoomToCompile}
 use Rattle.dxil_driver.specs.declared.status.Status.{Status}
 use Rattle.dxil_driver.specs.declared.status.Status.TheVariants.{Done, Refused, Usage as UsageStatus, ReadFault as ReadFaultStatus, WriteFault, Memory as MemoryStatus}
 use Rattle.dxil_driver.specs.declared.refusal.Refusal.{Refusal}
-use Rattle.dxil_driver.specs.declared.refusal.Refusal.TheVariants.{Usage, ReadFault, TooLong, BadByte, NumberTooLarge, TooManyTokens, Syntax, TooDeep, NotBuilt, Container, Stream, Records, Broken, Memory}
+use Rattle.dxil_driver.specs.declared.refusal.Refusal.TheVariants.{Usage, ReadFault, TooLong, BadByte, NumberTooLarge, TooManyTokens, Syntax, TooDeep, Rule, NotBuilt, Container, Stream, Records, Broken, Memory}
 
 -- the exit code of the process
 abbrev pub code_of : Status → ℕ
@@ -52,6 +53,7 @@ line_of (NumberTooLarge place) = line_at place (codes "number too large")
 line_of TooManyTokens = line (codes "error: too many tokens")
 line_of (Syntax place) = line_at place (codes "syntax")
 line_of TooDeep = line (codes "error: too deep")
+line_of (Rule rule place) = decimal place.line ++ (codes ":" ++ (decimal place.column ++ (codes ": rule " ++ (decimal rule ++ line_feed))))
 line_of NotBuilt = line (codes "error: not built")
 line_of (Container fault) = codes "error: container " ++ (decimal fault.kind ++ (codes " at " ++ (decimal fault.offset ++ line_feed)))
 line_of (Stream kind bit) = codes "error: stream " ++ (decimal kind ++ (codes " at bit " ++ (decimal bit ++ line_feed)))
@@ -79,6 +81,8 @@ refusal_of_compile (Lex NoRoomForTokens) = Memory
 refusal_of_compile (Parse (NoProgram at) place) = Syntax place
 refusal_of_compile (Parse DeepTree place) = TooDeep
 refusal_of_compile (Parse NoRoomForTree place) = Memory
+refusal_of_compile (BadProgram (BrokenRule rule at) place) = Rule rule place
+refusal_of_compile (BadProgram NoRoomForProgram place) = Memory
 refusal_of_compile Unbuilt = NotBuilt
 refusal_of_compile NoRoomToCompile = Memory
 

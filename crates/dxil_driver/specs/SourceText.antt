@@ -1,16 +1,11 @@
 -- The tokens of a source text, the tree that they spell, and the faults that a text has in place of these.
-use Rattle.std.specs.Prelude.{◌≡◌, ℕ, ◌<◌, ◌≤◌, List, length, map, slice_get, Some, ◌⊎◌}
+use Rattle.std.specs.Prelude.{◌≡◌, ℕ, ◌<◌, ◌≤◌, List, length, slice_get, option_map, unwrap_or}
 use Rattle.base_core.specs.declared.place.Place.{Place}
-use Rattle.hl_lexer.specs.declared.terminal.Terminal.{Terminal}
-use Rattle.hl_lexer.specs.Terminals.{terminal_of}
 use Rattle.hl_lexer.specs.Tokens.{IsTokenList, Lexeme, most_tokens}
 use Rattle.hl_parser.specs.Grammar.{IsSyntaxFault, SpellsProgram}
 use Rattle.hl_parser.specs.Parsing.{most_depth}
 use Rattle.hl_parser.specs.Trees.{Tree, depth}
-
--- what tokens are for the grammar
-abbrev pub terminals : List Lexeme → List Terminal
-terminals tokens = map (λ token. terminal_of token.kind) tokens
+use Rattle.hl_rules.specs.Source.{terminals_of}
 
 -- the text has these tokens, no more than are read, and ends at this place
 pub record HasTokens (text : List ℕ) (tokens : List Lexeme) (end : Place) : Type 0 where
@@ -19,7 +14,7 @@ pub record HasTokens (text : List ℕ) (tokens : List Lexeme) (end : Place) : Ty
 
 -- tokens spell this tree, and it isn't too deep
 pub record SpellTree (tokens : List Lexeme) (tree : Tree) : Type 0 where
-  pub spelled : SpellsProgram (terminals tokens) tree
+  pub spelled : SpellsProgram (terminals_of tokens) tree
   pub shallow : depth tree ≤ most_depth
 
 -- the text has these tokens, and they spell this tree
@@ -28,20 +23,18 @@ pub record HasTree (text : List ℕ) (tokens : List Lexeme) (tree : Tree) : Type
   pub lexed : HasTokens text tokens end
   pub tree-is : SpellTree tokens tree
 
--- the place of a token, or of the end where the index is the number of tokens
-abbrev pub IsPlaceOf : List Lexeme → Place → ℕ → Place → Type 0
-IsPlaceOf tokens end at place =
-    ((token : Lexeme) × (slice_get tokens at ≡ Some token) × (place ≡ token.place))
-    ⊎ ((at ≡ length tokens) × (place ≡ end))
+-- the place of the token of an index, or of the end where there is none
+abbrev pub place_at : List Lexeme → (end : Place) → ℕ → Place
+place_at tokens end at = unwrap_or (option_map (λ token. token.place) (slice_get tokens at)) end
 
 -- tokens spell no program, from an index on that has this place
 pub record IsBrokenAt (tokens : List Lexeme) (end : Place) (at : ℕ) (place : Place) : Type 0 where
-  pub fault : IsSyntaxFault (terminals tokens) at
-  pub place-is : IsPlaceOf tokens end at place
+  pub fault : IsSyntaxFault (terminals_of tokens) at
+  pub place-is : place ≡ place_at tokens end at
 
 -- tokens spell a tree that is too deep
 abbrev pub SpellTooDeep : List Lexeme → Type 0
-SpellTooDeep tokens = (tree : Tree) × SpellsProgram (terminals tokens) tree × (most_depth < depth tree)
+SpellTooDeep tokens = (tree : Tree) × SpellsProgram (terminals_of tokens) tree × (most_depth < depth tree)
 
 -- where every text begins
 abbrev pub start : Place

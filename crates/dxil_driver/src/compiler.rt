@@ -1,16 +1,20 @@
 //! From a text to a container.
 
-ghost use Rattle.std.specs.Prelude.{◌≡◌, ◌<◌, ◌≤◌, ◌⊎◌, length, IfOk, IfErr, OnOk, IsErrOf};
+ghost use Rattle.std.specs.Prelude.{◌≡◌, ◌≤◌, ◌⊎◌, length, IfOk, IfErr, OnOk, IsErrOf};
 ghost use Rattle.hl_lexer.specs.Tokens.{lexemes_of};
 ghost use Rattle.base_core.specs.declared.place.Place.{Place};
 ghost use Rattle.hl_parser.specs.Trees as plain;
 ghost use Rattle.hl_parser.specs.Views.{plain_of};
 ghost use Rattle.hl_parser.specs.declared.fault.ParseFault.{ParseFault};
+ghost use Rattle.hl_meaning.specs.Held.{plain_program};
+ghost use Rattle.hl_meaning.specs.Programs as plain_programs;
+ghost use Rattle.hl_rules.specs.Elaboration.{Elaborates};
+ghost use Rattle.hl_types.specs.Elaborating.{AreSpelling};
+ghost use Rattle.hl_types.specs.declared.fault.RuleFault.{RuleFault};
 ghost use Rattle.dxil_driver.specs.Compiled.{HasFirstForm, Compiled, most_source};
-ghost use Rattle.dxil_driver.specs.CompileFaults.{GivesTree, HasFault, HasTreeFault, HaveFault, IsContainerOfTokens, IsContainerOfTree, NamesTreeFault, SpellForm};
-ghost use Rattle.dxil_driver.specs.FirstForm.{IsForm};
-ghost use Rattle.dxil_driver.specs.SourceText.{IsPlaceOf, SpellTree};
-ghost use Rattle.dxil_driver.specs.declared.stores.FirstForm.{FirstForm};
+ghost use Rattle.dxil_driver.specs.CompileFaults.{AreTokens, GivesProgram, GivesTree, HasFault, HasTreeFault, HaveFault, HaveProgramFault, IsContainerOfProgram, IsContainerOfTokens, NamesRuleFault, NamesTreeFault, SpellForm, SpellProgram, TreeBreaks};
+ghost use Rattle.dxil_driver.specs.FirstForm.{form_of};
+ghost use Rattle.dxil_driver.specs.SourceText.{SpellTree, place_at};
 ghost use Rattle.dxil_driver.specs.declared.compiler.CompileFault.{CompileFault};
 
 use crate::command::MOST_SOURCE;
@@ -19,7 +23,9 @@ use crate::kernel_form::first_form;
 use crate::options::Options;
 use base_core::{Bytes, NoMemory, Place};
 use hl_lexer::{LexFault, Tokens, lex};
+use hl_meaning::Program;
 use hl_parser::{ParseFault, Tree, parse};
+use hl_types::{RuleFault, elaborate};
 use std::alloc::Global;
 
 /// Why a text isn't compiled.
@@ -32,7 +38,10 @@ pub enum CompileFault {
     /// The tokens spell no tree, or one that is too deep. The fault isn't `Memory`. The place is that of the token at
     /// the index of the fault, or of the end of the text, and the start of the text where the tree is too deep.
     Parse { fault: ParseFault, place: Place },
-    /// The tree isn't of the form that is compiled so far.
+    /// The tree breaks a typing rule. The fault isn't `Memory`. The place is that of the token at its index, or of the
+    /// end of the text.
+    Rule { fault: RuleFault, place: Place },
+    /// The program isn't of the form that is compiled so far.
     Unbuilt,
     /// Memory was refused.
     Memory,
@@ -66,10 +75,9 @@ impl From<LexFault> for CompileFault {
 /// Where every text begins.
 const START: Place = Place { line: 1, column: 1 };
 
-/// The place of a token, or of the end where the index is the number of tokens.
+/// The place of the token of an index, or of the end where there is none.
 fn place_of<'a>(tokens: &Tokens<'a>, at: usize) -> Place
-    requires { at ≤ length (lexemes_of tokens.now) }
-    ensures { IsPlaceOf (lexemes_of tokens.now) tokens.now.end at result }
+    ensures { result ≡ place_at (lexemes_of tokens.now) tokens.now.end at }
 {
     match tokens.list.get(at) {
         Some(token) => token.place,
@@ -102,21 +110,63 @@ fn read_tree<'a>(alloc: Global, tokens: &Tokens<'a>) -> Result<Tree, CompileFaul
     }
 }
 
-/// The container of a tree of tokens.
+/// The program of a tree of tokens.
 ///
 /// # Errors
-/// `Unbuilt` exactly where the tree is no first form for an entry of this name, and `Memory`, to which it yields.
-fn compile_tree<'a>(
+/// `Rule` exactly where the tree breaks a typing rule, the first one at its place, and `Memory`, to which it yields.
+fn read_rules<'a>(
     alloc: Global,
     tokens: &Tokens<'a>,
     tree: &Tree,
     entry: &[u8],
-) -> Result<Bytes, CompileFault>
-    ensures made { IfOk result (IsContainerOfTree (lexemes_of tokens.now) (plain_of tree.now) entry.now) }
-    ensures fault { IfErr result (λ fault. (fault ≡ CompileFault.Memory)
-        ⊎ ((fault ≡ CompileFault.Unbuilt) × ((form : FirstForm) → ¬ IsForm (lexemes_of tokens.now) (plain_of tree.now) entry.now form))) }
+) -> Result<Program, CompileFault>
+    requires { AreSpelling (lexemes_of tokens.now) tokens.now.end (plain_of tree.now) }
+    ensures program { IfOk result (λ program. Elaborates (plain_of tree.now) (lexemes_of tokens.now) entry.now (plain_program program)) }
+    ensures every_program { (program : plain_programs.Program) → Elaborates (plain_of tree.now) (lexemes_of tokens.now) entry.now program → GivesProgram result program }
+    ensures fault { IfErr result (NamesRuleFault (plain_of tree.now) (lexemes_of tokens.now) tokens.now.end entry.now) }
+    ensures every_fault { (fault : RuleFault) (place : Place) → TreeBreaks (plain_of tree.now) (lexemes_of tokens.now) tokens.now.end entry.now fault place
+        → IsErrOf result (CompileFault.Rule fault place) ⊎ IsErrOf result CompileFault.Memory }
 {
-    match first_form(alloc, tokens, tree, entry)? {
+    match elaborate(alloc, tree, tokens, entry) {
+        Ok(program) => Ok(program),
+        Err(RuleFault::Broken { rule, at }) => Err(CompileFault::Rule {
+            fault: RuleFault::Broken { rule, at },
+            place: place_of(tokens, at),
+        }),
+        Err(RuleFault::Memory) => Err(CompileFault::Memory),
+    }
+}
+
+/// The program that tokens spell.
+///
+/// # Errors
+/// `Parse` and `Rule` exactly where the tokens have that fault, and `Memory`, to which these yield.
+fn read_program<'a>(
+    alloc: Global,
+    tokens: &Tokens<'a>,
+    entry: &[u8],
+) -> Result<Program, CompileFault>
+    requires { AreTokens (lexemes_of tokens.now) tokens.now.end }
+    ensures program { IfOk result (λ program. SpellProgram (lexemes_of tokens.now) entry.now (plain_program program)) }
+    ensures every_program { (program : plain_programs.Program) → SpellProgram (lexemes_of tokens.now) entry.now program → GivesProgram result program }
+    ensures fault { IfErr result (λ fault. (fault ≡ CompileFault.Memory) ⊎ HaveProgramFault (lexemes_of tokens.now) tokens.now.end entry.now fault) }
+    ensures every_fault { (fault : CompileFault) → HaveProgramFault (lexemes_of tokens.now) tokens.now.end entry.now fault
+        → IsErrOf result fault ⊎ IsErrOf result CompileFault.Memory }
+{
+    let tree = read_tree(alloc, tokens)?;
+    read_rules(alloc, tokens, &tree, entry)
+}
+
+/// The container of a program.
+///
+/// # Errors
+/// `Unbuilt` exactly where the program has no first form, and `Memory`, to which it yields.
+fn compile_program(alloc: Global, program: &Program) -> Result<Bytes, CompileFault>
+    ensures made { IfOk result (IsContainerOfProgram (plain_program program.now)) }
+    ensures fault { IfErr result (λ fault. (fault ≡ CompileFault.Memory)
+        ⊎ ((fault ≡ CompileFault.Unbuilt) × (form_of (plain_program program.now) ≡ None))) }
+{
+    match first_form(alloc, program)? {
         None => Err(CompileFault::Unbuilt),
         Some(form) => {
             let bytes = kernel_container(alloc, &form)?;
@@ -128,20 +178,21 @@ fn compile_tree<'a>(
 /// The container of what tokens spell.
 ///
 /// # Errors
-/// `Parse` and `Unbuilt` exactly where the tokens have that fault, and `Memory`, to which these yield.
+/// `Parse`, `Rule` and `Unbuilt` exactly where the tokens have that fault, and `Memory`, to which these yield.
 fn compile_tokens<'a>(
     alloc: Global,
     tokens: &Tokens<'a>,
     entry: &[u8],
 ) -> Result<Bytes, CompileFault>
+    requires { AreTokens (lexemes_of tokens.now) tokens.now.end }
     ensures made { IfOk result (IsContainerOfTokens (lexemes_of tokens.now) entry.now) }
     ensures complete { SpellForm (lexemes_of tokens.now) entry.now → IfErr result (λ fault. fault ≡ CompileFault.Memory) }
     ensures fault { IfErr result (λ fault. (fault ≡ CompileFault.Memory) ⊎ HaveFault (lexemes_of tokens.now) tokens.now.end entry.now fault) }
     ensures every_fault { (fault : CompileFault) → HaveFault (lexemes_of tokens.now) tokens.now.end entry.now fault
         → IsErrOf result fault ⊎ IsErrOf result CompileFault.Memory }
 {
-    let tree = read_tree(alloc, tokens)?;
-    compile_tree(alloc, tokens, &tree, entry)
+    let program = read_program(alloc, tokens, entry)?;
+    compile_program(alloc, &program)
 }
 
 /// The container of the text.
@@ -149,8 +200,8 @@ fn compile_tokens<'a>(
 /// # Errors
 /// Each fault exactly where the text has it, and `Memory`, to which all others yield. A text has `TooLong` above
 /// 1048576 bytes; within that length `Lex` where it has no tokens, `Parse` where its tokens spell no tree or one that
-/// is too deep, and `Unbuilt` where its tree isn't of the first form for an entry of the name in the options. So a
-/// first form within that length gives `Ok` or `Memory`.
+/// is too deep, `Rule` where its tree breaks a typing rule for an entry of the name in the options, and `Unbuilt` where
+/// its program isn't of the first form. So a first form within that length gives `Ok` or `Memory`.
 #[tactic(auto, unfolding(crate::specs::Compiled::HasFirstForm, crate::specs::Compiled::Compiled))]
 pub fn compile(alloc: Global, text: &[u8], options: &Options) -> Result<Bytes, CompileFault>
     // What is answered is a container of a text that is accepted.

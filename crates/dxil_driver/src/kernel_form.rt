@@ -1,250 +1,95 @@
-//! Finds the first form of a tree: an entry of literal stores to one byte-address buffer.
+//! Finds the first form of a program: an entry of literal stores to one byte-address buffer.
 
-ghost use Rattle.std.specs.Prelude.{◌≡◌, List, IfOk, IfSome, IfNone, map};
+ghost use Rattle.std.specs.Prelude.{◌≡◌, ◌&&◌, IfOk, map};
 ghost use Rattle.std.specs.Option.{option_map};
-ghost use Rattle.hl_lexer.specs.Tokens.{lexeme_of, lexemes_of};
-ghost use Rattle.hl_parser.specs.Views.{plain_of, plain_trees};
-ghost use Rattle.dxil_driver.specs.declared.stores.FirstForm.{FirstForm};
-ghost use Rattle.dxil_driver.specs.FirstForm.{IsForm};
-ghost use Rattle.dxil_driver.specs.Reading.{Reads, behind_buffer, buffer_beside, declared_of, entry_of, form_of, has_bytes, head_of, is_group_size, name_at, number_at, number_in, parts_of, sizes_of, store_of, stores_of, stores_with, text_at, threads_of, without};
+ghost use Rattle.hl_meaning.specs.Held.{plain_program};
+ghost use Rattle.hl_meaning.specs.Views.{plain_expr, plain_form, plain_function, plain_resource, plain_stmt, plain_stmts};
+ghost use Rattle.dxil_driver.specs.FirstForm.{a_store, buffer_of, entry_of, expr_store, form_of, form_store, form_with, is_alone, is_output, is_zero, literal_word, one_word, store_of, stores_of, stores_with, word_of};
+ghost use Rattle.dxil_driver.specs.Reading.{Reads};
 
 use crate::stores::{FirstForm, LiteralStore, LiteralStores};
-use crate::tree_parts::{
-    arguments, attribute, buffer, call, function, is_void, item, items, kind, one, part,
-    statements, three, token, two,
-};
 use base_core::{NoMemory, Sequence, Text};
-use hl_lexer::{Token, TokenKind, Tokens};
-use hl_parser::Tree;
+use hl_meaning::{Expr, Form, FunctionDef, Program, Resource, Stmt, Stmts};
 use std::alloc::Global;
 
-/// The bytes of a token.
-#[tactic(auto, unfolding(crate::specs::Reading::text_at))]
-fn text_at<'a>(tokens: &[Token<'a>], at: usize) -> Option<&'a [u8]>
-    ensures { Reads (λ text. text.now) result (text_at (map lexeme_of tokens.now) at) }
+/// The word of a literal.
+fn literal_word(form: &Form) -> Option<u32>
+    ensures { result ≡ literal_word (plain_form form.now) }
 {
-    let token = tokens.get(at)?;
-    Some(token.text)
-}
-
-/// The bytes of a token that is a name.
-#[tactic(auto, unfolding(crate::specs::Reading::name_at))]
-fn name_at<'a>(tokens: &[Token<'a>], at: usize) -> Option<&'a [u8]>
-    ensures { Reads (λ name. name.now) result (name_at (map lexeme_of tokens.now) at) }
-{
-    let token = tokens.get(at)?;
-    match token.kind {
-        TokenKind::Name => Some(token.text),
+    match form {
+        Form::Literal(word) => Some(*word),
         _ => None,
     }
 }
 
-/// The value of a token that is a number.
-#[tactic(auto, unfolding(crate::specs::Reading::number_at))]
-fn number_at<'a>(tokens: &[Token<'a>], at: usize) -> Option<u32>
-    ensures { result ≡ number_at (map lexeme_of tokens.now) at }
+/// The word of an address or of what is stored, where it is a literal. One that is converted keeps its word.
+fn word(value: &Expr) -> Option<u32>
+    ensures { result ≡ word_of (plain_expr value.now) }
 {
-    let token = tokens.get(at)?;
-    match token.kind {
-        TokenKind::Number { value, .. } => Some(value),
+    match &value.form {
+        Form::Convert(inner) => literal_word(&inner.get().form),
+        _ => literal_word(&value.form),
+    }
+}
+
+/// The store of a word at an address, where both are literals.
+fn a_store(address: Option<u32>, word: Option<u32>) -> Option<LiteralStore>
+    ensures { result ≡ a_store address word }
+{
+    let address = address?;
+    let word = word?;
+    Some(LiteralStore { address, word })
+}
+
+/// The store of one literal word to the buffer of number 0.
+fn one_word(resource: u32, count: u8, address: &Expr, value: &Expr) -> Option<LiteralStore>
+    ensures { result ≡ one_word resource count (plain_expr address.now) (plain_expr value.now) }
+{
+    if resource == 0 && count == 1 {
+        a_store(word(address), word(value))
+    } else {
+        None
+    }
+}
+
+/// The store that the form of an expression is.
+fn form_store(form: &Form) -> Option<LiteralStore>
+    ensures { result ≡ form_store (plain_form form.now) }
+{
+    match form {
+        Form::Method {
+            resource,
+            count,
+            address,
+            value,
+        } => match value {
+            Some(value) => one_word(*resource, *count, address.get(), value.get()),
+            None => None,
+        },
         _ => None,
     }
 }
 
-/// Whether there are bytes, and they are these.
-fn has_bytes(found: Option<&[u8]>, bytes: &[u8]) -> bool
-    ensures { result ≡ has_bytes (option_map (λ text. text.now) found.entry) bytes.now }
+/// The store that a statement is.
+fn store(statement: &Stmt) -> Option<LiteralStore>
+    ensures { result ≡ store_of (plain_stmt statement.now) }
 {
-    match found {
-        None => false,
-        Some(text) => text == bytes,
+    match statement {
+        Stmt::Run(value) => form_store(&value.form),
+        _ => None,
     }
 }
 
-/// The number that an expression is.
-#[tactic(auto, unfolding(crate::specs::Reading::number_in))]
-fn number<'a>(tokens: &[Token<'a>], tree: &Tree) -> Option<u32>
-    ensures { result ≡ number_in (map lexeme_of tokens.now) (plain_of tree.now) }
-{
-    let at = token(tree)?;
-    number_at(tokens, at)
-}
-
-/// Whether a group may have these sizes: x and y from 1 to 1024, z from 1 to 64, and at most 1024 threads in all.
-#[tactic(auto, unfolding(crate::specs::Reading::is_group_size))]
-fn is_group_size(x: u32, y: u32, z: u32) -> bool
-    ensures { result ≡ is_group_size x y z }
-{
-    1 <= x && x <= 1024 && 1 <= y && y <= 1024 && 1 <= z && z <= 64 && x * y * z <= 1024
-}
-
-/// The sizes of a group.
-#[tactic(auto, unfolding(crate::specs::Reading::sizes_of))]
-fn sizes<'a>(tokens: &[Token<'a>], sizes: &[Tree]) -> Option<[u32; 3]>
-    ensures { result ≡ sizes_of (map lexeme_of tokens.now) (plain_trees sizes.now) }
-{
-    let (x, y, z) = three(sizes)?;
-    let x = number(tokens, x)?;
-    let y = number(tokens, y)?;
-    let z = number(tokens, z)?;
-    if is_group_size(x, y, z) {
-        Some([x, y, z])
-    } else {
-        None
-    }
-}
-
-/// The threads that the only attribute says.
-#[tactic(auto, unfolding(crate::specs::Reading::threads_of))]
-fn threads<'a>(tokens: &[Token<'a>], attributes: &[Tree]) -> Option<[u32; 3]>
-    ensures { result ≡ threads_of (map lexeme_of tokens.now) (plain_trees attributes.now) }
-{
-    let (name, arguments) = attribute(one(attributes)?)?;
-    if has_bytes(name_at(tokens, name), b"numthreads") {
-        sizes(tokens, arguments)
-    } else {
-        None
-    }
-}
-
-/// The threads and the statements of the entry.
-#[tactic(auto, unfolding(crate::specs::Reading::entry_of))]
-fn entry_of<'a, 't>(
-    tokens: &[Token<'a>],
-    tree: &'t Tree,
-    entry: &[u8],
-) -> Option<([u32; 3], &'t [Tree])>
-    ensures { Reads (λ found. (found.0, plain_trees found.1.now)) result (entry_of (map lexeme_of tokens.now) (plain_of tree.now) entry.now) }
-{
-    let parts = function(tree)?;
-    let threads = threads(tokens, parts.attributes)?;
-    let statements = statements(parts.block)?;
-    if is_void(parts.result) && has_bytes(name_at(tokens, parts.name), entry) {
-        Some((threads, statements))
-    } else {
-        None
-    }
-}
-
-/// The register, where there is no space.
-fn without(register: Option<usize>, space: Option<usize>) -> Option<usize>
-    ensures { result ≡ without register space }
-{
-    match space {
-        None => register,
-        Some(_) => None,
-    }
-}
-
-/// The name of a buffer of words that is register 0 of those that are written.
-#[tactic(auto, unfolding(crate::specs::Reading::declared_of))]
-fn declared<'a>(tokens: &[Token<'a>], tree: &Tree) -> Option<&'a [u8]>
-    ensures { Reads (λ name. name.now) result (declared_of (map lexeme_of tokens.now) (plain_of tree.now)) }
-{
-    let parts = buffer(tree)?;
-    let word = kind(parts.kind)?;
-    let name = name_at(tokens, parts.name)?;
-    let register = without(parts.register, parts.space)?;
-    if has_bytes(text_at(tokens, word), b"RWByteAddressBuffer")
-        && has_bytes(name_at(tokens, register), b"u0")
-    {
-        Some(name)
-    } else {
-        None
-    }
-}
-
-/// The name of a buffer, where it isn't the entry's.
-#[tactic(auto, unfolding(crate::specs::Reading::buffer_beside))]
-fn buffer_beside<'a>(tokens: &[Token<'a>], tree: &Tree, entry: &[u8]) -> Option<&'a [u8]>
-    ensures { Reads (λ name. name.now) result (buffer_beside (map lexeme_of tokens.now) (plain_of tree.now) entry.now) }
-{
-    let name = declared(tokens, tree)?;
-    if name == entry { None } else { Some(name) }
-}
-
-/// The name of the buffer, and the function behind it.
-#[tactic(auto, unfolding(crate::specs::Reading::behind_buffer))]
-fn behind_buffer<'a, 't>(
-    tokens: &[Token<'a>],
-    items: &'t [Tree],
-    entry: &[u8],
-) -> Option<(Option<&'a [u8]>, &'t Tree)>
-    ensures { Reads (λ found. (option_map (λ name. name.now) found.0, plain_of found.1.now)) result (behind_buffer (map lexeme_of tokens.now) (plain_trees items.now) entry.now) }
-{
-    let (first, second) = two(items)?;
-    let name = buffer_beside(tokens, item(first)?, entry)?;
-    let function = item(second)?;
-    Some((Some(name), function))
-}
-
-/// The function of a program, and the name of the buffer before it, where there is one.
-#[tactic(auto, unfolding(crate::specs::Reading::parts_of))]
-fn parts_of<'a, 't>(
-    tokens: &[Token<'a>],
-    tree: &'t Tree,
-    entry: &[u8],
-) -> Option<(Option<&'a [u8]>, &'t Tree)>
-    ensures { Reads (λ found. (option_map (λ name. name.now) found.0, plain_of found.1.now)) result (parts_of (map lexeme_of tokens.now) (plain_of tree.now) entry.now) }
-{
-    let items = items(tree)?;
-    match one(items) {
-        Some(only) => {
-            let function = item(only)?;
-            Some((None, function))
-        }
-        None => behind_buffer(tokens, items, entry),
-    }
-}
-
-/// The buffer's name, the threads and the statements.
-#[tactic(auto, unfolding(crate::specs::Reading::head_of))]
-fn head<'a, 't>(
-    tokens: &[Token<'a>],
-    tree: &'t Tree,
-    entry: &[u8],
-) -> Option<(Option<&'a [u8]>, [u32; 3], &'t [Tree])>
-    ensures { Reads (λ found. (option_map (λ name. name.now) found.0, found.1, plain_trees found.2.now)) result (head_of (map lexeme_of tokens.now) (plain_of tree.now) entry.now) }
-{
-    let (buffer, function) = parts_of(tokens, tree, entry)?;
-    let (threads, statements) = entry_of(tokens, function, entry)?;
-    Some((buffer, threads, statements))
-}
-
-/// A store to the buffer.
-#[tactic(auto, unfolding(crate::specs::Reading::store_of))]
-fn store<'a>(tokens: &[Token<'a>], buffer: &[u8], statement: &Tree) -> Option<LiteralStore>
-    ensures { result ≡ store_of (map lexeme_of tokens.now) buffer.now (plain_of statement.now) }
-{
-    let parts = call(part(statement)?)?;
-    let target = token(parts.target)?;
-    let (address, word) = two(arguments(parts.arguments)?)?;
-    let address = number(tokens, address)?;
-    let word = number(tokens, word)?;
-    if has_bytes(name_at(tokens, target), buffer)
-        && has_bytes(name_at(tokens, parts.name), b"Store")
-    {
-        Some(LiteralStore { address, word })
-    } else {
-        None
-    }
-}
-
-/// The stores that the statements are, or none where one is no store to the buffer.
+/// The stores that statements are, or none where one is no store.
 ///
 /// # Errors
 /// `NoMemory` where memory is refused.
-fn stores_to<'a>(
-    alloc: Global,
-    tokens: &[Token<'a>],
-    buffer: &[u8],
-    statements: &[Tree],
-) -> Result<Option<LiteralStores>, NoMemory>
-    ensures { IfOk result (λ found. found ≡ stores_of (map lexeme_of tokens.now) buffer.now (plain_trees statements.now)) }
+fn stores_in(alloc: Global, statements: &[Stmt]) -> Result<Option<LiteralStores>, NoMemory>
+    ensures { IfOk result (λ found. found ≡ stores_of (plain_stmts statements.now)) }
 {
     let mut stores = Sequence::new(alloc);
     for statement in statements {
-        match store(tokens, buffer, statement) {
+        match store(statement) {
             None => return Ok(None),
             Some(store) => stores.push(store)?,
         }
@@ -256,18 +101,67 @@ fn stores_to<'a>(
 ///
 /// # Errors
 /// `NoMemory` where memory is refused.
-fn stores_with<'a>(
+fn stores_with(
     alloc: Global,
-    tokens: &[Token<'a>],
     buffer: Option<&[u8]>,
-    statements: &[Tree],
+    statements: &[Stmt],
 ) -> Result<Option<LiteralStores>, NoMemory>
-    ensures { IfOk result (λ found. found ≡ stores_with (map lexeme_of tokens.now) (option_map (λ name. name.now) buffer.entry) (plain_trees statements.now)) }
+    ensures { IfOk result (λ found. found ≡ stores_with (option_map (λ name. name.now) buffer.entry) (plain_stmts statements.now)) }
 {
     match buffer {
-        Some(buffer) => stores_to(alloc, tokens, buffer, statements),
+        Some(_) => stores_in(alloc, statements),
         None if statements.is_empty() => Ok(Some(Sequence::new(alloc))),
         None => Ok(None),
+    }
+}
+
+/// Whether a number is there and is 0.
+fn is_zero(number: Option<u32>) -> bool
+    ensures { result ≡ is_zero number }
+{
+    match number {
+        None => false,
+        Some(number) => number == 0,
+    }
+}
+
+/// Whether a buffer is the one that is written: a byte-address buffer at register 0 of space 0.
+fn is_output(buffer: &Resource) -> bool
+    ensures { result ≡ is_output (plain_resource buffer.now) }
+{
+    buffer.raw && buffer.class == 1 && buffer.space == 0 && is_zero(buffer.register)
+}
+
+/// The name of the buffer, where there is one.
+fn buffer_in(buffers: &[Resource]) -> Option<Option<&[u8]>>
+    ensures { Reads (λ found. option_map (λ name. name.now) found) result (buffer_of (map plain_resource buffers.now)) }
+{
+    match buffers {
+        [] => Some(None),
+        [buffer] => {
+            if is_output(buffer) {
+                Some(Some(buffer.name.as_slice()))
+            } else {
+                None
+            }
+        }
+        _ => None,
+    }
+}
+
+/// The only function, where it has no parameters.
+fn entry_in(functions: &[FunctionDef]) -> Option<&FunctionDef>
+    ensures { Reads (λ found. plain_function found.now) result (entry_of (map plain_function functions.now)) }
+{
+    match functions {
+        [function] => {
+            if function.parameters.is_empty() {
+                Some(function)
+            } else {
+                None
+            }
+        }
+        _ => None,
     }
 }
 
@@ -287,49 +181,67 @@ fn owned(alloc: Global, name: Option<&[u8]>) -> Result<Option<Text>, NoMemory>
     }
 }
 
-/// Looks for the parts of the form in order.
+/// The form of a buffer, an entry and the threads of a group.
 ///
 /// # Errors
 /// `NoMemory` where memory is refused.
-#[tactic(auto, unfolding(crate::specs::Reading::form_of))]
-fn form<'a>(
+fn form_with(
     alloc: Global,
-    tokens: &[Token<'a>],
-    tree: &Tree,
-    entry: &[u8],
+    buffer: Option<&[u8]>,
+    entry: &FunctionDef,
+    threads: [u32; 3],
 ) -> Result<Option<FirstForm>, NoMemory>
-    ensures { IfOk result (λ found. found ≡ form_of (map lexeme_of tokens.now) (plain_of tree.now) entry.now) }
+    ensures { IfOk result (λ found. found ≡ form_with (option_map (λ name. name.now) buffer.entry) (plain_function entry.now) threads) }
 {
-    let (name, threads, statements) = match head(tokens, tree, entry) {
-        None => return Ok(None),
-        Some(head) => head,
-    };
-    let stores = match stores_with(alloc, tokens, name, statements)? {
-        None => return Ok(None),
-        Some(stores) => stores,
-    };
-    let buffer = owned(alloc, name)?;
-    let entry = Sequence::from_slice(alloc, entry)?;
-    Ok(Some(FirstForm {
-        entry,
-        buffer,
-        threads,
-        stores,
-    }))
+    match stores_with(alloc, buffer, entry.body.as_slice())? {
+        None => Ok(None),
+        Some(stores) => {
+            let buffer = owned(alloc, buffer)?;
+            let entry = Sequence::from_slice(alloc, entry.name.as_slice())?;
+            Ok(Some(FirstForm {
+                entry,
+                buffer,
+                threads,
+                stores,
+            }))
+        }
+    }
 }
 
-/// The first form of a tree of these tokens, or none where the tree has none for an entry of this name.
+/// Whether all of three things hold.
+fn all_three(one: bool, two: bool, three: bool) -> bool
+    ensures { result ≡ (one && (two && three)) }
+{
+    one && two && three
+}
+
+/// Whether a program has no struct, groupshared variable or constant.
+fn is_alone(program: &Program) -> bool
+    ensures { result ≡ is_alone (plain_program program.now) }
+{
+    let structs = program.structs.is_empty();
+    let shared = program.shared.is_empty();
+    let constants = program.constants.is_empty();
+    all_three(structs, shared, constants)
+}
+
+/// The first form of a program, or none where it has none.
 ///
 /// # Errors
 /// `NoMemory` where memory is refused.
-pub fn first_form<'a>(
-    alloc: Global,
-    tokens: &Tokens<'a>,
-    tree: &Tree,
-    entry: &[u8],
-) -> Result<Option<FirstForm>, NoMemory>
-    ensures found { IfOk result (λ found. IfSome found (IsForm (lexemes_of tokens.now) (plain_of tree.now) entry.now)) }
-    ensures none { IfOk result (λ found. IfNone found ((form : FirstForm) → ¬ IsForm (lexemes_of tokens.now) (plain_of tree.now) entry.now form)) }
+#[tactic(auto, unfolding(crate::specs::FirstForm::form_of))]
+pub fn first_form(alloc: Global, program: &Program) -> Result<Option<FirstForm>, NoMemory>
+    ensures { IfOk result (λ found. found ≡ form_of (plain_program program.now)) }
 {
-    form(alloc, tokens.list.as_slice(), tree, entry)
+    if !is_alone(program) {
+        return Ok(None);
+    }
+    let buffer = match buffer_in(program.resources.as_slice()) {
+        None => return Ok(None),
+        Some(buffer) => buffer,
+    };
+    match entry_in(program.functions.as_slice()) {
+        None => Ok(None),
+        Some(entry) => form_with(alloc, buffer, entry, program.threads),
+    }
 }

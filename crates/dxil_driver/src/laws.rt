@@ -8,4 +8,5 @@ pub fn at_most_one_first_form()
 {
     hl_lexer::laws::at_most_one_token_list();
     hl_parser::laws::at_most_one_tree();
+    hl_rules::laws::at_most_one_program();
 }

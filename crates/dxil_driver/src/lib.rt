@@ -13,7 +13,6 @@ pub mod options;
 pub mod refusal;
 pub mod status;
 mod stores;
-mod tree_parts;
 
 pub use checker::{CheckFault, check};
 pub use command::Command;

@@ -12,6 +12,7 @@ use bc_stream::StreamFault;
 use dx_container::ContainerFault;
 use hl_lexer::LexFault;
 use hl_parser::ParseFault;
+use hl_types::RuleFault;
 use ir_core::Spot;
 use std::alloc::{AllocError, Global};
 
@@ -35,6 +36,8 @@ pub enum Refusal {
     Syntax(Place),
     /// The source is nested too deep.
     TooDeep,
+    /// The source breaks this typing rule at this place, and none before it.
+    Rule { rule: u8, place: Place },
     /// The source isn't of the form that is compiled so far.
     NotBuilt,
     /// The bytes are no container.
@@ -64,6 +67,7 @@ impl Refusal {
             | Refusal::TooManyTokens
             | Refusal::Syntax(_)
             | Refusal::TooDeep
+            | Refusal::Rule { .. }
             | Refusal::NotBuilt
             | Refusal::Container(_)
             | Refusal::Stream { .. }
@@ -96,6 +100,10 @@ impl Refusal {
                 format!(in alloc; "{line}:{column}: syntax\n")
             }
             Refusal::TooDeep => format!(in alloc; "error: too deep\n"),
+            Refusal::Rule {
+                rule,
+                place: Place { line, column },
+            } => { format!(in alloc; "{line}:{column}: rule {rule}\n") }
             Refusal::NotBuilt => format!(in alloc; "error: not built\n"),
             Refusal::Container(ContainerFault { kind, offset }) => {
                 format!(in alloc; "error: container {kind} at {offset}\n")
@@ -153,10 +161,18 @@ impl From<CompileFault> for Refusal {
                 fault: ParseFault::TooDeep,
                 ..
             } => Refusal::TooDeep,
+            CompileFault::Rule {
+                fault: RuleFault::Broken { rule, .. },
+                place,
+            } => Refusal::Rule { rule, place },
             CompileFault::Unbuilt => Refusal::NotBuilt,
             CompileFault::Lex(LexFault::Memory)
             | CompileFault::Parse {
                 fault: ParseFault::Memory,
+                ..
+            }
+            | CompileFault::Rule {
+                fault: RuleFault::Memory,
                 ..
             }
             | CompileFault::Memory => Refusal::Memory,

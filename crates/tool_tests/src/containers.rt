@@ -19,7 +19,7 @@ const TWO_STORES: &[u8] =
 
 /// The same kernel, with a comment and other spellings of its numbers.
 const SPELLED_OTHERWISE: &[u8] =
-    b"RWByteAddressBuffer o : register(u0); [numthreads(01,0x1,1u)] void main() { o.Store(0, /* seven */ 0x7); o.Store(04, 0xFFFFFFFFu); }";
+    b"RWByteAddressBuffer o : register(u0, space0); [numthreads(01,0x1,2-1u)] void main() { o.Store(false, /* seven */ (0x7)); o.Store((uint)04, 0xFFFFFFFFu); }";
 
 #[test]
 fn an_empty_kernel_has_its_container(rt: HostRuntime) -> Result<(), Fail> {
@@ -79,13 +79,15 @@ fn spellings_and_comments_say_the_same(rt: HostRuntime) -> Result<(), Fail> {
 
 #[test]
 fn other_texts_are_not_built(rt: HostRuntime) -> Result<(), Fail> {
-    let texts: [&[u8]; 6] = [
-        b"[numthreads(1,1,1)] void main() { o.Store(0, 7); }",
-        b"[numthreads(1024,2,1)] void main() {}",
-        b"[numthreads(1,1,65)] void main() {}",
-        b"RWByteAddressBuffer main : register(u0); [numthreads(1,1,1)] void main() {}",
-        b"RWByteAddressBuffer o : register(u0, space0); [numthreads(1,1,1)] void main() {}",
-        b"RWByteAddressBuffer o : register(u0); [numthreads(1,1,1)] void main() { p.Store(0, 7); }",
+    let texts: [&[u8]; 8] = [
+        b"[numthreads(1,1,1)] void main() { ; }",
+        b"void f() {} [numthreads(1,1,1)] void main() {}",
+        b"groupshared uint g; [numthreads(1,1,1)] void main() {}",
+        b"[numthreads(1,1,1)] void main(uint t : SV_GroupIndex) {}",
+        b"RWByteAddressBuffer o : register(u1); [numthreads(1,1,1)] void main() {}",
+        b"RWByteAddressBuffer o : register(u0, space1); [numthreads(1,1,1)] void main() {}",
+        b"RWByteAddressBuffer o : register(u0); [numthreads(1,1,1)] void main() { o.Store2(0, 7); }",
+        b"RWByteAddressBuffer o : register(u0); [numthreads(1,1,1)] void main() { o.Store(0, 3 + 4); }",
     ];
     let options = options(&rt)?;
     for text in texts {

@@ -8,4 +8,6 @@ mod containers;
 #[cfg(test)]
 mod run;
 #[cfg(test)]
+mod typing;
+#[cfg(test)]
 mod verdicts;

@@ -7,10 +7,10 @@ use std::test::Fail;
 
 /// The status of a run, what the output has, and what the notes have.
 #[derive(Drop)]
-struct Run {
-    status: Status,
+pub(crate) struct Run {
+    pub(crate) status: Status,
     output: MemorySink,
-    notes: MemorySink,
+    pub(crate) notes: MemorySink,
 }
 
 fn sink(rt: &HostRuntime, failing: &[u64]) -> Result<MemorySink, Fail> {
@@ -34,7 +34,7 @@ fn run_tool<I: Source>(
     failing_notes: &[u64],
 ) -> Result<Run, Fail> {
     let words = owned(rt, words)?;
-    let mut output = sink(rt, &[])?;
+    let mut output = MemorySink::new(rt.alloc(), 4096, 4096, Calls::new(rt.alloc()))?;
     let mut notes = sink(rt, failing_notes)?;
     let status = tool(rt.alloc(), &words, input, &mut output, &mut notes);
     Ok(Run {
@@ -44,7 +44,7 @@ fn run_tool<I: Source>(
     })
 }
 
-fn assert_refused(rt: &impl Abort, run: &Run, status: Status, line: &[u8]) {
+pub(crate) fn assert_refused(rt: &impl Abort, run: &Run, status: Status, line: &[u8]) {
     assert_eq!(rt; run.status, status);
     assert_eq!(rt; run.notes.written(), line);
     assert_eq!(rt; run.output.written().len(), 0);
@@ -108,7 +108,7 @@ fn repeated(rt: &HostRuntime, pieces: &[(&[u8], usize)]) -> Result<Bytes, Fail> 
 }
 
 /// How a source is refused.
-fn compile_run(rt: &HostRuntime, text: Bytes) -> Result<Run, Fail> {
+pub(crate) fn compile_run(rt: &HostRuntime, text: Bytes) -> Result<Run, Fail> {
     run_tool(rt, &["compile"], &mut PlainSource::new(text), &[])
 }
 
@@ -126,7 +126,7 @@ fn texts_are_refused(rt: HostRuntime) -> Result<(), Fail> {
         (b"4294967296", b"1:1: number too large\n"),
         (b"void f() { /* }", b"1:12: bad byte\n"),
         (b"void f() {\n\tint if;\n}", b"2:6: syntax\n"),
-        (b"void f() {}", b"error: not built\n"),
+        (b"void f() {}", b"1:12: rule 13\n"),
         (
             b"[numthreads(1,1,1)] void main() { ; }",
             b"error: not built\n",
@@ -226,9 +226,9 @@ fn a_kernel_is_compiled_by_each_form_of_the_words(rt: HostRuntime) -> Result<(),
 }
 
 #[test]
-fn a_kernel_without_the_entry_is_not_built(rt: HostRuntime) -> Result<(), Fail> {
+fn a_kernel_without_the_entry_breaks_a_rule(rt: HostRuntime) -> Result<(), Fail> {
     let mut input = PlainSource::new(Bytes::from_slice(rt.alloc(), EMPTY_KERNEL)?);
     let run = run_tool(&rt, &["compile", "--entry", "mainly"], &mut input, &[])?;
-    assert_refused(&rt, &run, Status::Refused, b"error: not built\n");
+    assert_refused(&rt, &run, Status::Refused, b"1:35: rule 13\n");
     Ok(())
 }

@@ -1,12 +1,12 @@
-use mathlib.Core.Logic.{inl, inr}
-use Rattle.std.proofs.Common.{◌≡◌, ◌∙◌, ℕ, List, sym, ap, subst, arith}
+use Rattle.std.proofs.Common.{◌≡◌, ℕ, List, sym, subst, arith}
 use Rattle.std.specs.Prelude.{Result, Err, ◌⊎◌, IfOk, IfErr}
 use Rattle.std.specs.Result.{IsErrOf}
 use Rattle.dxil_driver.specs.Compiled.{Compiled, HasFirstForm}
 use Rattle.dxil_driver.specs.CompileFaults.{HasFault, of_tokens}
 use Rattle.dxil_driver.specs.declared.compiler.CompileFault.{CompileFault}
 use Rattle.dxil_driver.specs.declared.compiler.CompileFault.TheVariants.{Memory}
-use Rattle.dxil_driver.proofs.Compiling.{answered, lex_complete, lex_every, lexed_compiled, lexed_fault, lexed_form, lexed_every, no_error}
+use Rattle.dxil_driver.proofs.Compiling.{lex_complete, lex_every, lexed_compiled, lexed_fault, lexed_form, lexed_every}
+use Rattle.dxil_driver.proofs.Errors.{answered, named, no_error}
 use Rattle.dxil_driver.proofs.compiler.compile.Goals as goal
 
 pub returns-in_err-tokens-clause-complete : goal.returns-in_err-tokens-clause-complete
@@ -19,10 +19,9 @@ pub returns-in_err-tokens-clause-every_fault : goal.returns-in_err-tokens-clause
 returns-in_err-tokens-clause-every_fault c = λ fault h.
     let is : c.from_residual.result ≡ Err (of_tokens c.in_err-tokens.field-0.0) = answered c.from_residual.result (of_tokens c.in_err-tokens.field-0.0) c.from_residual.ensures.1 in
     named is (lex_every c.args.text.now c.args.options.now.entry (omega arith) c.in_err-tokens.field-0.0 c.in_err-tokens.ensures.every_list c.in_err-tokens.ensures.every_fault fault h)
-  where
-    named : {r : Result (List ℕ) CompileFault} {a b : CompileFault} → r ≡ Err a → (a ≡ b) ⊎ (a ≡ Memory) → IsErrOf r b ⊎ IsErrOf r Memory
-    named is (inl e) = inl (is ∙ ap (λ (f : CompileFault). Err f) e)
-    named is (inr e) = inr (is ∙ ap (λ (f : CompileFault). Err f) e)
+
+pub compile_tokens-requires : goal.compile_tokens-requires
+compile_tokens-requires c = (c.args.text.now, c.in_ok-tokens.ensures.tokens)
 
 pub returns-clause-compiled : goal.returns-clause-compiled
 returns-clause-compiled c =

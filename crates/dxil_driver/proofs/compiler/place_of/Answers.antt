@@ -5,4 +5,4 @@ pub returns-in-Some : goal.returns-in-Some
 returns-in-Some c = place_there c.args.tokens.now.list c.args.tokens.now.end c.args.at c.in-Some.token.now c.in-Some.ensures.value
 
 pub returns-in-None : goal.returns-in-None
-returns-in-None c = place_end c.args.tokens.now.list c.args.tokens.now.end c.args.at c.in-None.ensures.value c.requires
+returns-in-None c = place_end c.args.tokens.now.list c.args.tokens.now.end c.args.at c.in-None.ensures.value

@@ -1,0 +1,246 @@
+#!/usr/bin/env python3
+"""Sources that break no typing rule, of a wished size, to measure how fast their programs are made.
+
+    bench/programs.py SHAPE BYTES TOKENS > FILE
+
+The source has at most so many bytes and so many tokens. Its shape is
+
+kernels        functions as one writes them, with loops, vectors, members, buffers and calls: four bytes a token
+
+or one of the widest texts, in the table WIDE below.
+"""
+import random, sys
+
+from sources import headed, indented, repeated, tokens_of
+
+HEAD = '''struct Cell { uint3 position; int weight; uint next[4]; };
+StructuredBuffer<Cell> cells : register(t0);
+ByteAddressBuffer words : register(t1);
+RWStructuredBuffer<int> sums : register(u0);
+RWByteAddressBuffer output : register(u1);
+static const uint SIZE = 64;
+static const int weights[SIZE - 60] = { 1, 2, 2, 1 };
+groupshared uint tile[SIZE * 4];
+groupshared int3 corners[8];
+
+'''
+
+TAIL = '''[numthreads(64, 1, 1)]
+void main(uint3 id : SV_DispatchThreadID, uint lane : SV_GroupIndex) {
+    tile[lane] = id.x;
+    GroupMemoryBarrierWithGroupSync();
+    output.Store(4 * id.x, tile[63 - lane]);
+}
+'''
+TYPES = ['uint'] * 5 + ['int'] * 4 + ['bool', 'uint3', 'int3', 'uint2']
+COMMENTS = ['the rows that this group has left', 'wraps at the end of the buffer', 'see the header',
+            'no lane writes the same word twice', 'odd lengths take one step more']
+SHORT = {'uint': 'u', 'int': 'i', 'bool': 'b', 'uint3': 'u3', 'int3': 'i3', 'uint2': 'u2'}
+
+
+class Functions:
+    """Functions at random, the same ones in every run. What is in scope is known by its type."""
+
+    def __init__(self, seed):
+        self.random = random.Random(seed)
+        self.made = []      # the functions so far, with the types of their parameters and what they give
+        self.names = 0      # how many names the function has so far
+        self.known = []     # blocks of names, each with its type and whether it may be written
+        self.looped = 0     # how many loops stand around
+
+    def pick(self, words):
+        return self.random.choice(words)
+
+    def one_of(self, *choices):
+        """One of several ways to go on, each with how often it is taken."""
+        ways, weights = zip(*choices)
+        return self.random.choices(ways, weights)[0]()
+
+    def named(self, ty, written=False):
+        return [name for block in self.known for name, own, free in block if own == ty and (free or not written)]
+
+    def declared(self, ty, free=True):
+        self.names += 1
+        name = f'{SHORT[ty]}_{self.names}'
+        self.known[-1].append((name, ty, free))
+        return name
+
+    # ---- expressions of a type
+
+    def number(self, ty):
+        if ty == 'bool':
+            return self.pick(['true', 'false'])
+        return self.pick([str(self.random.randrange(100)), f'{self.random.randrange(1 << 16):#x}',
+                          f'{self.random.randrange(64)}u'])
+
+    def word(self, ty):
+        names = self.named(ty)
+        if names and self.random.random() < 0.75:
+            return self.pick(names)
+        if ty in ('uint3', 'int3', 'uint2'):
+            return f'{ty}({", ".join(self.number(ty[:-1]) for _ in range(int(ty[-1])))})'
+        return self.number(ty)
+
+    def called(self, ty, level):
+        fitting = [made for made in self.made[-20:] if made[2] == ty]
+        if not fitting:
+            return self.word(ty)
+        name, params, _ = self.pick(fitting)
+        return f'{name}({", ".join(self.expression(own, level - 1) for own in params)})'
+
+    def compared(self, level):
+        ty = self.pick(['uint', 'int'])
+        sign = self.pick(['<', '<=', '>', '>=', '==', '!='])
+        return f'{self.expression(ty, level - 1)} {sign} {self.expression(ty, level - 1)}'
+
+    def scalar(self, ty, level):
+        inner = lambda own: self.expression(own, level - 1)
+        vector = self.pick(['uint3', 'uint2'] if ty == 'uint' else ['int3'])
+        letter = self.pick('xy' if vector == 'uint2' else 'xyz')
+        return self.one_of(
+            (lambda: f'({inner(ty)} {self.pick("+-*&|^")} {inner(ty)})', 10),
+            (lambda: f'({inner(ty)} {self.pick(["<<", ">>", "/", "%"])} {self.random.randrange(1, 9)})', 3),
+            (lambda: f'{self.word(vector)}.{letter}', 4),
+            (lambda: f'cells[{inner("uint")}].{"weight" if ty == "int" else "position.x"}', 2),
+            (lambda: f'words.Load({inner("uint")} & 1020)' if ty == 'uint' else f'sums[{inner("uint")}]', 2),
+            (lambda: f'tile[{inner("uint")} & 63]' if ty == 'uint' else f'weights[{inner("uint")} & 3]', 2),
+            (lambda: f'{self.pick(["min", "max"])}({inner(ty)}, {inner(ty)})', 2),
+            (lambda: f'countbits({inner("uint")})' if ty == 'uint' else f'abs({inner("int")})', 1),
+            (lambda: f'({inner("bool")} ? {inner(ty)} : {inner(ty)})', 1),
+            (lambda: f'({ty}) {self.word(self.pick(["uint", "int", "bool"]))}', 1),
+            (lambda: self.called(ty, level), 3))
+
+    def expression(self, ty, level):
+        if level <= 0:
+            return self.word(ty)
+        inner = lambda own: self.expression(own, level - 1)
+        if ty == 'bool':
+            return self.one_of((lambda: self.word(ty), 2), (lambda: f'({self.compared(level)})', 6),
+                               (lambda: f'({inner(ty)} {self.pick(["&&", "||"])} {inner(ty)})', 2),
+                               (lambda: f'!{self.word(ty)}', 1))
+        if ty in ('uint', 'int'):
+            return self.one_of((lambda: self.word(ty), 6), (lambda: self.scalar(ty, level), 10))
+        return self.one_of((lambda: self.word(ty), 4),
+                           (lambda: f'({inner(ty)} {self.pick("+-*&|^")} {inner(ty)})', 5),
+                           (lambda: f'{self.word(ty)}.{"yx" if ty == "uint2" else self.pick(["zyx", "xxy"])}', 2),
+                           (lambda: f'{ty}({", ".join(self.expression(ty[:-1], 1) for _ in range(int(ty[-1])))})', 2),
+                           (lambda: self.called(ty, level), 1))
+
+    # ---- statements, each as lines
+
+    def local(self):
+        ty = self.pick(TYPES)
+        value = self.expression(ty, 2)
+        return [f'{ty} {self.declared(ty)} = {value};']
+
+    def assigned(self):
+        ty = self.pick(['uint', 'int', 'uint3', 'int3'])
+        places = self.named(ty, written=True)
+        if not places:
+            return self.local()
+        place, sign = self.pick(places), self.pick(['='] * 4 + ['+=', '-=', '^=', '|=', '*='])
+        return [f'{place} {sign} {self.expression(ty, 2)};']
+
+    def effect(self):
+        value = lambda ty: self.expression(ty, 2)
+        return self.one_of((lambda: [f'output.Store({value("uint")}, {value("uint")});'], 3),
+                           (lambda: [f'tile[{value("uint")} & 255] = {value("uint")};'], 2),
+                           (lambda: [f'corners[{value("uint")} & 7].{self.pick("xyz")} = {value("int")};'], 1),
+                           (lambda: [f'InterlockedAdd(tile[{value("uint")} & 255], {value("uint")});'], 1),
+                           (lambda: [f'sums[{value("uint")}] += {value("int")};'], 1))
+
+    def body(self, level):
+        self.known.append([])
+        lines = [' {', *indented(self.statements(level, self.random.randrange(1, 5))), '}']
+        self.known.pop()
+        return lines
+
+    def branch(self, level):
+        lines = headed(f'if ({self.expression("bool", 2)})', self.body(level))
+        return lines[:-1] + headed('} else', self.body(level)) if self.random.random() < 0.4 else lines
+
+    def loop(self, level):
+        self.known.append([])
+        name = self.declared('uint', free=False)
+        self.looped += 1
+        lines = headed(f'for (uint {name} = 0; {name} < {self.random.randrange(2, 64)}; {name}++)', self.body(level))
+        self.looped -= 1
+        self.known.pop()
+        return lines
+
+    def statement(self, level):
+        simple = [(self.local, 7), (self.assigned, 8), (self.effect, 4), (lambda: ['// ' + self.pick(COMMENTS)], 4)]
+        if self.looped:
+            simple.append((lambda: [f'if ({self.expression("bool", 1)}) {self.pick(["break", "continue"])};'], 1))
+        nested = [(lambda: self.branch(level - 1), 3), (lambda: self.loop(level - 1), 2)]
+        return self.one_of(*simple, *(nested if level > 0 else []))
+
+    def statements(self, level, count):
+        return [line for _ in range(count) for line in self.statement(level)]
+
+    def text(self):
+        """One more function, with an empty line behind it."""
+        self.names, self.known = 0, [[]]
+        gives, params = self.pick(['uint', 'int', 'uint3']), [self.pick(TYPES) for _ in range(self.random.randrange(4))]
+        written = ', '.join(f'{own} {self.declared(own)}' for own in params)
+        name = f'helper_{len(self.made)}'
+        lines = self.statements(3, self.random.randrange(6, 16))
+        lines = headed(f'{gives} {name}({written})', [' {', *indented([*lines, f'return {self.word(gives)};']), '}'])
+        self.made.append((name, params, gives))
+        return '\n'.join([f'// {self.pick(COMMENTS)}', *lines]) + '\n\n'
+
+
+def kernels(most_bytes, most_tokens):
+    """As many functions as both limits hold, between what they use and the entry."""
+    functions, parts = Functions(1), []
+    ends = HEAD + TAIL
+    size, count = len(ends), tokens_of(ends.encode())
+    while True:
+        part = functions.text()
+        size, count = size + len(part), count + tokens_of(part.encode())
+        if size > most_bytes or count > most_tokens:
+            return (HEAD + ''.join(parts) + TAIL).encode()
+        parts.append(part)
+
+
+ENTRY = b'[numthreads(1,1,1)] void main() {'
+
+
+def numbered(before, part, after, most):
+    """A shape that has a part, with a number of its own, as often as both limits hold, but at most so often."""
+    def make(most_bytes, most_tokens):
+        parts, size, count = [], len(before + after), tokens_of(before + after)
+        for number in range(most):
+            one = part % {b'n': number}
+            size, count = size + len(one), count + tokens_of(one)
+            if size > most_bytes or count > most_tokens:
+                break
+            parts.append(one)
+        return before + b''.join(parts) + after
+    return make
+
+
+# one list that is as long as both limits allow, or as a rule does
+WIDE = {
+    'functions': numbered(b'', b'uint f%(n)d(uint a) { return a + %(n)d; }', ENTRY + b'}', 1 << 20),
+    'overloads': numbered(b'', b'void f(uint a[%(n)d+1]) { }', ENTRY + b'}', 1000),
+    'names': numbered(ENTRY, b'uint a%(n)d=%(n)d;', b'}', 1 << 20),
+    'uses': repeated(ENTRY + b'uint x=0;', b'x=x+1;', b'}'),
+    'initialisers': repeated(b'static const int a[32768] = {0', b',1', b'};' + ENTRY + b'}', times=32767),
+    'arguments': repeated(b'groupshared uint g;' + ENTRY, b'g=max(g,g);', b'}'),
+    'members': numbered(b'struct S {', b'int a%(n)d;', b'};' + ENTRY + b'S s; s.a0 = 1; }', 65535),
+    'statements': repeated(ENTRY, b'{;}', b'}'),
+    '64 operands': repeated(ENTRY + b'uint x=0;', b'x=1' + 58 * b'+1' + b';', b'}'),
+}
+SHAPES = {'kernels': kernels} | WIDE
+
+
+def main():
+    words = sys.argv[1:]
+    if len(words) != 3 or words[0] not in SHAPES or not (words[1] + words[2]).isdecimal():
+        sys.exit(f'usage: {sys.argv[0]} SHAPE BYTES TOKENS > FILE, with a shape of: {", ".join(SHAPES)}')
+    sys.stdout.buffer.write(SHAPES[words[0]](int(words[1]), int(words[2])))
+
+
+if __name__ == '__main__':
+    main()

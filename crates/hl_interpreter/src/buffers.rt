@@ -1,5 +1,6 @@
 //! Loads and stores of buffers, each of up to four words.
 
+use crate::components::first_words;
 use crate::run::{Run, Stop};
 use crate::state::{State, asks, asks_four};
 use base_core::Words;
@@ -41,6 +42,9 @@ fn four_words(words: &[u32]) -> [u32; 4] {
 }
 
 /// One store of up to four words at a byte offset of an element.
+///
+/// # Errors
+/// `Memory` for more words than an event can count, which no program stores.
 pub(crate) fn store_four(
     run: &Run,
     slot: Slot,
@@ -49,11 +53,14 @@ pub(crate) fn store_four(
     words: &[u32],
     state: &mut State,
 ) -> Result<(), Stop> {
+    let Ok(count) = u8::try_from(words.len()) else {
+        return Err(Stop::Memory);
+    };
     let event = Event::BufferStore {
         slot,
         index,
         offset,
-        count: words.len() as u8,
+        count,
         words: four_words(words),
     };
     asks(run, event, state)?;
@@ -74,7 +81,7 @@ pub(crate) fn load_words(
         let four = load_four(run, slot, index, byte_offset(offset, 4 * piece), state)?;
         words.extend_from_slice(four.as_slice())?;
     }
-    let first = Words::from_slice(run.alloc, &words.as_slice()[..count as usize])?;
+    let first = first_words(run.alloc, words.as_slice(), count as usize)?;
     Ok(first)
 }
 

@@ -32,6 +32,11 @@ pub(crate) fn word_at(words: &[u32], at: usize) -> u32 {
     words.get(at).copied().unwrap_or(0)
 }
 
+/// The first words of a value, all where there are fewer.
+pub(crate) fn first_words(alloc: Global, words: &[u32], count: usize) -> Result<Words, NoMemory> {
+    Words::from_slice(alloc, &words[..count.min(words.len())])
+}
+
 /// A scalar repeated for a type, or a vector cut to it.
 fn resized(alloc: Global, from: &HlType, to: &HlType, words: &[u32]) -> Result<Words, NoMemory> {
     let count = component_count(to);
@@ -42,7 +47,7 @@ fn resized(alloc: Global, from: &HlType, to: &HlType, words: &[u32]) -> Result<W
         }
         return Ok(result);
     }
-    Words::from_slice(alloc, &words[..count.min(words.len())])
+    first_words(alloc, words, count)
 }
 
 /// Each word as a value of a kind.

@@ -6,7 +6,7 @@
 use crate::atomics::{atomic_original, write_original};
 use crate::buffers::{load_four, store_four};
 use crate::components::{
-    binary_words, chosen_words, converted, one_word, unary_words, word_at, zeros,
+    binary_words, chosen_words, converted, first_words, one_word, unary_words, word_at, zeros,
 };
 use crate::intrinsics::worked;
 use crate::layout::words_of;
@@ -291,8 +291,7 @@ fn load_method(
 ) -> Result<Words, Stop> {
     let slot = slot_of(run, resource);
     let words = load_four(run, slot, word_at(at, 0), 0, state)?;
-    let count = words.len().min(count as usize);
-    let first = Words::from_slice(run.alloc, &words.as_slice()[..count])?;
+    let first = first_words(run.alloc, words.as_slice(), count as usize)?;
     Ok(first)
 }
 

@@ -1,5 +1,6 @@
 //! The inputs of the entry (HLSL, "Semantics").
 
+use crate::components::first_words;
 use crate::operations::component_count;
 use crate::run::{LanePlace, Run};
 use base_core::{NoMemory, Sequence, Words};
@@ -59,8 +60,7 @@ fn input_words(
 ) -> Result<Words, NoMemory> {
     let threads = run.program.threads;
     let words = semantic_words(run.alloc, threads, run.lane, parameter.semantic)?;
-    let count = words.len().min(parameter_count(function, parameter));
-    Words::from_slice(run.alloc, &words.as_slice()[..count])
+    first_words(run.alloc, words.as_slice(), parameter_count(function, parameter))
 }
 
 /// The words of each parameter of the entry.

@@ -63,7 +63,7 @@ fn free_register(
             taken.push(slot.register)?;
         }
     }
-    Ok(least_free(taken.as_slice()))
+    Ok(least_free(&taken))
 }
 
 /// The register that a buffer of a class gives, where it stands in space 0.
@@ -76,9 +76,10 @@ fn given_register(class: u8, resource: &Resource) -> Option<u32> {
 }
 
 /// The least number that isn't among some.
-fn least_free(taken: &[u32]) -> u32 {
-    for number in 0..=taken.len() as u32 {
-        if !taken.iter().any(|other| *other == number) {
+fn least_free(taken: &Sequence<u32>) -> u32 {
+    let count = taken.len() as u32;
+    for number in 0..count + 1 {
+        if !taken.as_slice().iter().any(|other| *other == number) {
             return number;
         }
     }

@@ -51,7 +51,8 @@ pub(crate) fn signed_quotient(dividend: u32, divisor: u32) -> Result<u32, LaneFa
     } else if divisor == 0 {
         Err(LaneFault::DivideByZero)
     } else {
-        Ok((dividend as i32 / divisor as i32) as u32)
+        let quotient = dividend.cast_signed().wrapping_div(divisor.cast_signed());
+        Ok(quotient.cast_unsigned())
     }
 }
 
@@ -65,7 +66,8 @@ pub(crate) fn signed_remainder(dividend: u32, divisor: u32) -> Result<u32, LaneF
     } else if divisor == 0 {
         Err(LaneFault::DivideByZero)
     } else {
-        Ok((dividend as i32 % divisor as i32) as u32)
+        let remainder = dividend.cast_signed().wrapping_rem(divisor.cast_signed());
+        Ok(remainder.cast_unsigned())
     }
 }
 
@@ -81,12 +83,12 @@ pub(crate) fn unsigned_shift_right(word: u32, count: u32) -> u32 {
 
 /// The same of a signed word, which keeps its sign.
 pub(crate) fn signed_shift_right(word: u32, count: u32) -> u32 {
-    ((word as i32) >> (count % 32)) as u32
+    word.cast_signed().wrapping_shr(count).cast_unsigned()
 }
 
 /// Whether one signed word is less than another.
 pub(crate) fn signed_less(left: u32, right: u32) -> bool {
-    (left as i32) < (right as i32)
+    left.cast_signed() < right.cast_signed()
 }
 
 /// The place of the lowest bit that is set, and a word of ones where none is.

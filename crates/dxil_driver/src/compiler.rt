@@ -195,6 +195,18 @@ fn compile_tokens<'a>(
     compile_program(alloc, &program)
 }
 
+/// The typed program of a text, with the entry of this name.
+///
+/// # Errors
+/// `TooLong`, `Lex`, `Parse` and `Rule` as of `compile`, and `Memory`.
+pub fn program_of(alloc: Global, text: &[u8], entry: &[u8]) -> Result<Program, CompileFault> {
+    if text.len() > MOST_SOURCE {
+        return Err(CompileFault::TooLong);
+    }
+    let tokens = lex(alloc, text)?;
+    read_program(alloc, &tokens, entry)
+}
+
 /// The container of the text.
 ///
 /// # Errors

@@ -7,7 +7,7 @@ use Rattle.lane_core.specs.declared.event.Event.{Event}
 use Rattle.lane_core.specs.declared.event.Reply.{Reply}
 use Rattle.lane_core.specs.Lane.{Exchange, ask_with, standing}
 use Rattle.hl_source.specs.State.{Progress, State, asks, ends_at, goes_with, reply_words}
-use Rattle.hl_source.specs.Words.{wrapped}
+use Rattle.lane_core.specs.Words.{wrapped}
 
 -- what is held between two events
 abbrev pub between : List Reply → (variables : List (List ℕ)) → (events : List Event) → State

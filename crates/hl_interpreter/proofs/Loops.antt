@@ -5,7 +5,7 @@ use Rattle.std.specs.Int.{div_ceil}
 use Rattle.std.specs.List.{concat, range_with_len, zip}
 use Rattle.hl_source.specs.Memory.{pieces, word_offsets}
 use Rattle.hl_source.specs.State.{Progress, State, after, each, first_then, goes_with, ends_at, no_value}
-use Rattle.hl_source.specs.Words.{wrapping_add}
+use Rattle.lane_core.specs.Words.{wrapping_add}
 use Rattle.hl_interpreter.specs.declared.run.Stop.{Stop}
 use Rattle.hl_interpreter.specs.declared.run.Stop.TheVariants.{Ends, Memory}
 use Rattle.hl_interpreter.specs.Runs.{Meets}

@@ -8,7 +8,7 @@ use Rattle.hl_meaning.specs.declared.ty.Kind.{Kind}
 use Rattle.hl_source.specs.Intrinsics as meaning
 use Rattle.hl_source.specs.Intrinsics.{absolute, barrier, clamped, from_all, from_one, from_three, from_two, greater, lesser, of_lane, own_form, wave, wave_alone, wave_at, wave_four}
 use Rattle.hl_source.specs.Operations.{by_sign}
-use Rattle.hl_source.specs.Words.{first_bit_low, holds}
+use Rattle.lane_core.specs.Words.{first_bit_low, holds}
 use Rattle.hl_interpreter.specs.declared.works.Judgement.{Judgement}
 use Rattle.hl_interpreter.specs.declared.works.Judgement.TheVariants.{All, Any}
 use Rattle.hl_interpreter.specs.declared.works.OneWork.{OneWork}

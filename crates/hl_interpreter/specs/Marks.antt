@@ -2,7 +2,7 @@
 use Rattle.std.specs.Prelude.{ℕ, ◌==◌, ◌&&◌, ◌||◌, not, Bool, false, if◌then◌else◌}
 use Rattle.hl_meaning.specs.declared.ty.Kind.{Kind}
 use Rattle.hl_source.specs.Operations.{less}
-use Rattle.hl_source.specs.Words.{holds}
+use Rattle.lane_core.specs.Words.{holds}
 
 abbrev pub truth_of : (op : ℕ) → Kind → ℕ → ℕ → Bool
 truth_of op kind a b =

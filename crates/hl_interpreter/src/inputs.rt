@@ -6,7 +6,7 @@ ghost use Rattle.hl_meaning.specs.Places.{variable_type};
 ghost use Rattle.hl_meaning.specs.Types.{component_count, void_type};
 ghost use Rattle.hl_meaning.specs.Views.{plain_variable};
 ghost use Rattle.hl_source.specs.SourceLane.{components, dispatch_thread, flat_index, grid_of, input_words, inputs, semantic_components};
-ghost use Rattle.hl_source.specs.Words.{wrapped};
+ghost use Rattle.lane_core.specs.Words.{wrapped};
 ghost use Rattle.hl_interpreter.specs.Runs.{lane_of};
 
 use crate::components::first_words;

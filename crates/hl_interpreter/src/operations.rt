@@ -4,7 +4,7 @@ ghost use Rattle.std.specs.Prelude.{◌≡◌, ◌==◌, ◌&&◌, ◌||◌, not
 ghost use Rattle.hl_meaning.specs.Types.{component_count};
 ghost use Rattle.hl_meaning.specs.Views.{plain_ty};
 ghost use Rattle.hl_source.specs.Operations.{binary_word, by_sign, chosen_word, component_kind, less, unary_word, word_as};
-ghost use Rattle.hl_source.specs.Words.{signed_quotient, signed_remainder, signed_shift_right, unsigned_quotient, unsigned_remainder, unsigned_shift_right};
+ghost use Rattle.lane_core.specs.Words.{signed_quotient, signed_remainder, signed_shift_right, unsigned_quotient, unsigned_remainder, unsigned_shift_right};
 ghost use Rattle.hl_interpreter.specs.Marks.{truth_of};
 
 use crate::words::{

@@ -1,7 +1,7 @@
 //! Arithmetic on words of 32 bits. As a signed number a word is in two's complement.
 
 ghost use Rattle.std.specs.Prelude.{◌≡◌, ◌==◌, ◌&&◌};
-ghost use Rattle.hl_source.specs.Words.{first_bit_low, holds, shift_left, signed_less, signed_quotient, signed_remainder, signed_shift_right, truth, unsigned_quotient, unsigned_remainder, unsigned_shift_right};
+ghost use Rattle.lane_core.specs.Words.{first_bit_low, holds, shift_left, signed_less, signed_quotient, signed_remainder, signed_shift_right, truth, unsigned_quotient, unsigned_remainder, unsigned_shift_right};
 
 use lane_core::LaneFault;
 

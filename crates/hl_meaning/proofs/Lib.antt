@@ -8,3 +8,4 @@ pub mod WordSums
 pub mod ProgramSums
 pub mod TypeLemmas
 pub mod EmptyProgram
+pub mod LayoutForms

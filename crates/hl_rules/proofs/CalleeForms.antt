@@ -22,7 +22,7 @@ use Rattle.hl_rules.proofs.DeclaratorForms.{IsKnownResult}
 use Rattle.hl_rules.proofs.Fitting.{FitsFunction, IsKnownFunction, param_for}
 use Rattle.hl_rules.proofs.FunctionEntry.{made_function}
 use Rattle.hl_rules.proofs.InputForms.{copying-tokens, param-tokens}
-use Rattle.hl_rules.proofs.LayoutForms.{get-next}
+use Rattle.hl_meaning.proofs.LayoutForms.{get-next}
 use Rattle.hl_rules.proofs.ParamForms.{AreTypedParams}
 use Rattle.hl_rules.proofs.StructForms.{IsKnownType, known_words}
 use Rattle.hl_rules.proofs.TreeShapes.{AllTrees, IsParam}

@@ -17,7 +17,7 @@ use Rattle.hl_rules.proofs.ConstantForms.{HasWords}
 use Rattle.hl_rules.proofs.ConstantWords.{constant-words}
 use Rattle.hl_rules.proofs.DeclaratorForms.{IsKnownAs}
 use Rattle.hl_rules.proofs.Free.{IsFree}
-use Rattle.hl_rules.proofs.LayoutForms.{below-more, kinds_of-front, length-kinds_of}
+use Rattle.hl_meaning.proofs.LayoutForms.{below-more, kinds_of-front, length-kinds_of}
 use Rattle.hl_rules.proofs.ResourceForms.{known-words_of}
 use Rattle.hl_rules.proofs.ScopeForms.{FitsNames, declared-there}
 use Rattle.hl_rules.proofs.Soundness.{IsSound}

@@ -22,7 +22,7 @@ use Rattle.hl_rules.proofs.Free.{IsFree}
 use Rattle.hl_rules.proofs.InputForms.{AreKnownParams, IsInputParam, among-tokens, copying-tokens, first-input, free-params, param-tokens, param_semantic-tokens}
 use Rattle.hl_rules.proofs.TreeShapes.{AllTrees, IsParam}
 use Rattle.hl_rules.proofs.Options.{length-one, or-true}
-use Rattle.hl_rules.proofs.LayoutForms.{get-next}
+use Rattle.hl_meaning.proofs.LayoutForms.{get-next}
 
 -- ---- the variables of parameters
 

@@ -5,7 +5,7 @@ use Rattle.std.proofs.lemmas.Option.{slice_get_within}
 use Rattle.hl_meaning.specs.Types.{Ty}
 use Rattle.hl_rules.specs.Scopes.{BufferInfo, FunctionInfo, Scope, StructInfo, a_buffer_name, a_function_name, a_struct_name, named, with_global}
 use Rattle.hl_rules.proofs.Fitting.{IsKnownFunction}
-use Rattle.hl_rules.proofs.LayoutForms.{get-front, get-next}
+use Rattle.hl_meaning.proofs.LayoutForms.{get-front, get-next}
 use Rattle.hl_rules.proofs.ScopeForms.{sound-global}
 use Rattle.hl_rules.proofs.Soundness.{IsSound}
 use Rattle.hl_rules.proofs.StructForms.{IsKnownStruct, known-push, known_words}

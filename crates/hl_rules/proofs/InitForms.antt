@@ -24,7 +24,7 @@ use Rattle.hl_rules.proofs.Becoming.{with_two-there}
 use Rattle.hl_rules.proofs.DeclaratorForms.{IsKnownAs}
 use Rattle.hl_rules.proofs.Fitting.{Fits}
 use Rattle.hl_rules.proofs.Free.{IsFree, free-first, free-left, free-right, not_broken}
-use Rattle.hl_rules.proofs.LayoutForms.{IsBelow, kinds_of-front, length-kinds_of}
+use Rattle.hl_meaning.proofs.LayoutForms.{IsBelow, kinds_of-front, length-kinds_of}
 use Rattle.hl_rules.proofs.Options.{or-one, or-other}
 use Rattle.hl_rules.proofs.Shapes.{IsExpression}
 use Rattle.hl_rules.proofs.ScopeForms.{declared-there, names-fit}

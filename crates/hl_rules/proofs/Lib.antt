@@ -40,7 +40,6 @@ pub mod InputForms
 pub mod IntrinsicForms
 pub mod ItemForms
 pub mod JumpForms
-pub mod LayoutForms
 pub mod LexemeForms
 pub mod LocalForms
 pub mod Marks

@@ -15,7 +15,7 @@ use Rattle.hl_rules.proofs.Fitting.{FitsBuffer, FitsFunction}
 use Rattle.hl_rules.proofs.FunctionEntry.{made_function}
 use Rattle.hl_rules.proofs.FunctionItems.{IsFunctionThere}
 use Rattle.hl_rules.proofs.GlobalForms.{get-push, sound-buffer_name, sound-function_name, sound-struct_name}
-use Rattle.hl_rules.proofs.LayoutForms.{get-front, get-next}
+use Rattle.hl_meaning.proofs.LayoutForms.{get-front, get-next}
 use Rattle.hl_rules.proofs.ProgramScopes.{Stands, program_env}
 use Rattle.hl_rules.proofs.ResourceForms.{IsKnownBuffer, buffer-fits}
 use Rattle.hl_rules.proofs.ScopeForms.{FitSort, FitsNames, declared-there, sorts-global}

@@ -13,7 +13,7 @@ use Rattle.hl_rules.specs.Scopes.{BufferInfo, Named, Scope, Sort, StructInfo, a_
 use Rattle.hl_rules.specs.Statements.{struct_defs}
 use Rattle.hl_rules.proofs.DeclaratorForms.{IsKnownAs}
 use Rattle.hl_rules.proofs.Fitting.{Fits, FitsStructs, FitsVariable, is_inside}
-use Rattle.hl_rules.proofs.LayoutForms.{get-next}
+use Rattle.hl_meaning.proofs.LayoutForms.{get-next}
 use Rattle.hl_rules.proofs.Soundness.{IsSound}
 use Rattle.hl_rules.proofs.StructForms.{IsKnownType, declared-known, known_words}
 use Rattle.hl_rules.proofs.VariableCounts.{IsBehind}

@@ -10,7 +10,7 @@ use Rattle.hl_meaning.specs.WellFormed.{IsDeclared}
 use Rattle.hl_rules.specs.Scopes.{MemberInfo, StructInfo, type_words}
 use Rattle.hl_rules.specs.Statements.{struct_def, struct_defs}
 use Rattle.hl_rules.proofs.Fitting.{FitsStructs}
-use Rattle.hl_rules.proofs.LayoutForms.{IsBelow, kinds_of-front}
+use Rattle.hl_meaning.proofs.LayoutForms.{IsBelow, kinds_of-front}
 use Rattle.hl_rules.proofs.StructForms.{AreKnownStructs, IsKnownMember, IsKnownType, declared-known, known-split, known_type-front, known_words, type_words-known, words_of-known}
 use Rattle.hl_rules.proofs.StructLayout.{member-known, member_type-known}
 

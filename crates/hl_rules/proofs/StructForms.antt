@@ -9,7 +9,7 @@ use Rattle.hl_meaning.specs.Layout.{member_words, struct_words, struct_words_aft
 use Rattle.hl_meaning.specs.WellFormed.{IsDeclared, IsType, most_words}
 use Rattle.hl_rules.specs.Scopes.{MemberInfo, StructInfo, type_words}
 use Rattle.hl_rules.specs.Statements.{members_from, struct_def}
-use Rattle.hl_rules.proofs.LayoutForms.{IsBelow, below-more, words-front, words_of-front}
+use Rattle.hl_meaning.proofs.LayoutForms.{IsBelow, below-more, words-front, words_of-front}
 
 -- ---- what is known
 

@@ -10,7 +10,7 @@ use Rattle.hl_meaning.specs.Layout.{member_words, words_in}
 use Rattle.hl_meaning.specs.Places as places
 use Rattle.hl_rules.specs.Scopes.{MemberInfo, StructInfo, type_words}
 use Rattle.hl_rules.specs.Statements.{members_from, struct_def, struct_defs}
-use Rattle.hl_rules.proofs.LayoutForms.{IsBelow, below-more, get-front}
+use Rattle.hl_meaning.proofs.LayoutForms.{IsBelow, below-more, get-front}
 use Rattle.hl_rules.proofs.StructForms.{AreKnownMembers, AreKnownStructs, IsKnownMember, IsKnownStruct, known-at, known_words, type_below, words_known}
 
 -- ---- further structs behind

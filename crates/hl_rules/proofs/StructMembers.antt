@@ -13,7 +13,7 @@ use Rattle.hl_meaning.specs.WellFormed.{IsDeclared, IsStruct, most_words}
 use Rattle.hl_rules.specs.Scopes.{MemberInfo, Scope, StructInfo, type_words}
 use Rattle.hl_rules.specs.Statements.{members_from, struct_def, struct_defs}
 use Rattle.hl_rules.specs.Values.{member_number, member_type, members_of}
-use Rattle.hl_rules.proofs.LayoutForms.{IsBelow, below-more}
+use Rattle.hl_meaning.proofs.LayoutForms.{IsBelow, below-more}
 use Rattle.hl_rules.proofs.Searching.{IsFirst, position-first}
 use Rattle.hl_rules.proofs.StructForms.{AreKnownMembers, AreKnownStructs, IsKnownMember, IsKnownStruct, IsKnownType, declared-known, known-at, known-split, known-take, known_type-front, known_words, struct_words-known, type_words-known, words_known, words_of-known}
 use Rattle.hl_rules.proofs.StructLayout.{known_member-at, member_type-known, offsets-from}

@@ -6,7 +6,7 @@ use Rattle.std.proofs.lemmas.Option.{slice_get_within}
 use Rattle.hl_meaning.specs.declared.ty.Kind.{Kind}
 use Rattle.hl_meaning.specs.Layout.{kinds_in, repeated}
 use Rattle.hl_meaning.specs.Types.{Ty, array_type, scalar_type, struct_type, vector_type, void_type}
-use Rattle.hl_rules.proofs.LayoutForms.{get-next}
+use Rattle.hl_meaning.proofs.LayoutForms.{get-next}
 use Rattle.hl_types.specs.Kinds.{each_behind, member_types, one_at, struct_kinds, types_kinds}
 use Rattle.hl_types.specs.Listing.{type_weight, types_weight}
 use Rattle.hl_types.proofs.KindLemmas.{each-at, length-each_behind}

@@ -13,7 +13,7 @@ use Rattle.hl_meaning.specs.Types.{Ty, array_type, scalar_type, struct_type, vec
 use Rattle.hl_rules.specs.DeclarationRules.{is_other}
 use Rattle.hl_rules.specs.Scopes.{MemberInfo, StructInfo, members_words, type_words, words_if}
 use Rattle.hl_rules.specs.Statements.{members_from, struct_def, struct_defs}
-use Rattle.hl_rules.proofs.LayoutForms.{get-next, length-kinds_of}
+use Rattle.hl_meaning.proofs.LayoutForms.{get-next, length-kinds_of}
 use Rattle.hl_types.specs.Kinds.{each_behind, each_front, has_count, kinds_behind, kinds_front, kinds_if, member_types, members_at, one_at, struct_kinds, type_kinds, types_kinds}
 use Rattle.hl_values.specs.declared.words.WordCount.{WordCount}
 use Rattle.hl_values.specs.declared.words.WordCount.TheVariants.{Few, Many}

@@ -1,12 +1,20 @@
 //! The lines of events and outcomes.
 
+ghost use Rattle.std.specs.Prelude.{◌≡◌, ◌++◌, codes, IfOk, string_bytes};
+ghost use Rattle.hl_interpreter.specs.Runs.{run_of};
+ghost use Rattle.lane_core.specs.declared.event.Event.{Event};
+ghost use Rattle.dxil_driver.specs.Refusal.{line_feed};
+ghost use Rattle.trace_driver.specs.Lines.{atomic_name, event_line, fault_line, numbers, buffer_place, outcome_lines, run_lines, wave_name};
+
 use base_core::{Bytes, NoMemory};
 use hl_interpreter::LaneRun;
 use lane_core::{Asked, AtomicKind, Cell, Event, LaneFault, Slot, WaveKind};
 use std::alloc::{AllocError, Global};
 
 /// The name of an atomic operation.
-fn atomic_name(kind: AtomicKind) -> &'static str {
+fn atomic_name(kind: AtomicKind) -> &'static str
+    ensures { result.now ≡ atomic_name kind }
+{
     match kind {
         AtomicKind::Add => "add",
         AtomicKind::And => "and",
@@ -21,7 +29,9 @@ fn atomic_name(kind: AtomicKind) -> &'static str {
 }
 
 /// The name of a wave operation.
-fn wave_name(kind: WaveKind) -> &'static str {
+fn wave_name(kind: WaveKind) -> &'static str
+    ensures { result.now ≡ wave_name kind }
+{
     match kind {
         WaveKind::AnyTrue => "any-true",
         WaveKind::AllTrue => "all-true",
@@ -51,7 +61,9 @@ fn store_line(
     index: u32,
     offset: u32,
     words: &[u32],
-) -> Result<String, AllocError> {
+) -> Result<String, AllocError>
+    ensures { IfOk result (λ line. string_bytes line ≡ codes "buffer-store" ++ buffer_place slot index offset (numbers words.now line_feed)) }
+{
     let Slot {
         class,
         space,
@@ -68,18 +80,20 @@ fn store_line(
 }
 
 /// The line of an event.
-fn event_line(alloc: Global, event: Event) -> Result<String, AllocError> {
+fn event_line(alloc: Global, event: Event) -> Result<String, AllocError>
+    ensures { IfOk result (λ line. string_bytes line ≡ event_line event) }
+{
     match event {
         Event::BufferLoad {
-            slot,
+            slot:
+                Slot {
+                    class,
+                    space,
+                    register,
+                },
             index,
             offset,
         } => {
-            let Slot {
-                class,
-                space,
-                register,
-            } = slot;
             format!(in alloc; "buffer-load {class} {space} {register} {index} {offset}\n")
         }
         Event::BufferStore {
@@ -93,68 +107,62 @@ fn event_line(alloc: Global, event: Event) -> Result<String, AllocError> {
             store_line(alloc, slot, index, offset, &words[..count])
         }
         Event::BufferAtomic {
-            slot,
+            slot:
+                Slot {
+                    class,
+                    space,
+                    register,
+                },
             index,
             offset,
             kind,
             word,
         } => {
-            let Slot {
-                class,
-                space,
-                register,
-            } = slot;
             let name = atomic_name(kind);
             format!(in alloc;
                 "buffer-atomic {class} {space} {register} {index} {offset} {name} {word}\n"
             )
         }
         Event::BufferCompareExchange {
-            slot,
+            slot:
+                Slot {
+                    class,
+                    space,
+                    register,
+                },
             index,
             offset,
             compare,
             word,
         } => {
-            let Slot {
-                class,
-                space,
-                register,
-            } = slot;
             format!(in alloc;
                 "buffer-compare-exchange {class} {space} {register} {index} {offset} {compare} {word}\n"
             )
         }
-        _ => other_line(alloc, event),
-    }
-}
-
-/// The line of an event that isn't of a buffer.
-fn other_line(alloc: Global, event: Event) -> Result<String, AllocError> {
-    match event {
-        Event::SharedLoad { cell } => {
-            let Cell { variable, word } = cell;
+        Event::SharedLoad {
+            cell: Cell { variable, word },
+        } => {
             format!(in alloc; "shared-load {variable} {word}\n")
         }
-        Event::SharedStore { cell, word: value } => {
-            let Cell { variable, word } = cell;
+        Event::SharedStore {
+            cell: Cell { variable, word },
+            word: value,
+        } => {
             format!(in alloc; "shared-store {variable} {word} {value}\n")
         }
         Event::SharedAtomic {
-            cell,
+            cell: Cell { variable, word },
             kind,
             word: value,
         } => {
-            let Cell { variable, word } = cell;
             let name = atomic_name(kind);
             format!(in alloc; "shared-atomic {variable} {word} {name} {value}\n")
         }
         Event::SharedCompareExchange {
-            cell,
+            cell: Cell { variable, word },
             compare,
             word: value,
         } => {
-            let Cell { variable, word } = cell;
             format!(in alloc; "shared-compare-exchange {variable} {word} {compare} {value}\n")
         }
         Event::Barrier { mode } => format!(in alloc; "barrier {mode}\n"),
@@ -166,12 +174,13 @@ fn other_line(alloc: Global, event: Event) -> Result<String, AllocError> {
             let name = wave_name(kind);
             format!(in alloc; "wave {name} {operand} {lane}\n")
         }
-        _ => format!(in alloc; ""),
     }
 }
 
 /// The line of an outcome, with that of the event that is asked before it.
-fn outcome_lines(alloc: Global, outcome: Asked) -> Result<String, AllocError> {
+fn outcome_lines(alloc: Global, outcome: Asked) -> Result<String, AllocError>
+    ensures { IfOk result (λ lines. string_bytes lines ≡ outcome_lines outcome) }
+{
     match outcome {
         Asked::Asks(event) => {
             let mut lines = event_line(alloc, event)?;
@@ -185,7 +194,9 @@ fn outcome_lines(alloc: Global, outcome: Asked) -> Result<String, AllocError> {
 }
 
 /// The line of a fault.
-fn fault_line(alloc: Global, fault: LaneFault) -> Result<String, AllocError> {
+fn fault_line(alloc: Global, fault: LaneFault) -> Result<String, AllocError>
+    ensures { IfOk result (λ line. string_bytes line ≡ fault_line fault) }
+{
     match fault {
         LaneFault::DivideByZero => format!(in alloc; "fault divide-by-zero\n"),
         LaneFault::DivideOverflow => format!(in alloc; "fault divide-overflow\n"),
@@ -198,7 +209,9 @@ fn fault_line(alloc: Global, fault: LaneFault) -> Result<String, AllocError> {
 ///
 /// # Errors
 /// `NoMemory` where memory is refused.
-pub(crate) fn run_lines(alloc: Global, run: &LaneRun) -> Result<Bytes, NoMemory> {
+pub(crate) fn run_lines(alloc: Global, run: &LaneRun) -> Result<Bytes, NoMemory>
+    ensures { IfOk result (λ lines. lines ≡ run_lines (run_of run.now)) }
+{
     let mut lines = Bytes::new(alloc);
     for event in run.events.as_slice() {
         let line = event_line(alloc, *event)?;

@@ -1,6 +1,11 @@
 //! What is asked for: the words of the command line.
 
-use base_core::{NoMemory, Sequence, Text};
+ghost use Rattle.std.specs.Prelude.{◌≡◌, ◌≤◌, None, length, drop, IfOk, MatchOption, map, string_bytes};
+ghost use Rattle.std.specs.Str.{all_ascii_digits};
+ghost use Rattle.lane_core.specs.declared.event.Reply.{Reply};
+ghost use Rattle.trace_driver.specs.Requests.{Asks, IsUsage, behind_comma, before_comma, each_of, is_decimal, lane_of, number_of, reply_of};
+
+use base_core::{NoMemory, Sequence, Text, Words};
 use hl_interpreter::LanePlace;
 use hl_lexer::is_name;
 use lane_core::Reply;
@@ -15,14 +20,30 @@ pub struct Request {
     pub replies: Sequence<Reply>,
 }
 
+/// Whether all bytes are decimal digits.
+fn are_digits(text: &[u8]) -> bool
+    ensures { result ≡ all_ascii_digits text.now }
+{
+    for byte in text {
+        if !byte.is_ascii_digit() {
+            return false;
+        }
+    }
+    true
+}
+
 /// Whether a text is a decimal number: digits alone, and at least one.
-fn is_decimal(text: &[u8]) -> bool {
-    !text.is_empty() && text.iter().all(|byte| byte.is_ascii_digit())
+fn is_decimal(text: &str) -> bool
+    ensures { result ≡ is_decimal text.now }
+{
+    !text.is_empty() && are_digits(text.as_bytes())
 }
 
 /// A decimal number below 2^32.
-fn word_of(text: &str) -> Option<u32> {
-    if is_decimal(text.as_bytes()) {
+fn word_of(text: &str) -> Option<u32>
+    ensures { result ≡ number_of 32 text.now }
+{
+    if is_decimal(text) {
         text.parse::<u32>().ok()
     } else {
         None
@@ -30,27 +51,34 @@ fn word_of(text: &str) -> Option<u32> {
 }
 
 /// A decimal number below 2^64.
-fn count_of(text: &str) -> Option<u64> {
-    if is_decimal(text.as_bytes()) {
+fn count_of(text: &str) -> Option<u64>
+    ensures { result ≡ number_of 64 text.now }
+{
+    if is_decimal(text) {
         text.parse::<u64>().ok()
     } else {
         None
     }
 }
 
-/// Three decimal numbers.
-fn three_of(words: &[String], at: usize) -> Option<[u32; 3]> {
-    let first = word_of(words.get(at)?.as_str())?;
-    let second = word_of(words.get(at + 1)?.as_str())?;
-    let third = word_of(words.get(at + 2)?.as_str())?;
-    Some([first, second, third])
+/// A text up to its first comma, and behind it.
+fn at_comma(text: &str) -> (&str, &str)
+    ensures before { result.0.now ≡ before_comma text.now }
+    ensures behind { result.1.now ≡ behind_comma text.now }
+{
+    match text.split_once(',') {
+        Some((before, behind)) => (before, behind),
+        None => (text, ""),
+    }
 }
 
 /// A reply: four decimal numbers with commas between.
-fn reply_of(text: &str) -> Option<Reply> {
-    let (first, rest) = text.split_once(',')?;
-    let (second, rest) = rest.split_once(',')?;
-    let (third, fourth) = rest.split_once(',')?;
+fn reply_of(text: &str) -> Option<Reply>
+    ensures { result ≡ reply_of text.now }
+{
+    let (first, rest) = at_comma(text);
+    let (second, rest) = at_comma(rest);
+    let (third, fourth) = at_comma(rest);
     let words = [
         word_of(first)?,
         word_of(second)?,
@@ -60,22 +88,24 @@ fn reply_of(text: &str) -> Option<Reply> {
     Some(Reply { words })
 }
 
-/// The lane of the words behind the name of the entry.
-fn lane_of(words: &[String]) -> Option<LanePlace> {
-    let group = three_of(words, 1)?;
-    let thread = three_of(words, 4)?;
-    let lane_index = word_of(words.get(7)?.as_str())?;
-    let wave_size = word_of(words.get(8)?.as_str())?;
-    Some(LanePlace {
-        group,
-        thread,
-        lane_index,
-        wave_size,
-    })
+/// The numbers that words write, or none where one of them writes none.
+fn numbers_of(alloc: Global, words: &[String]) -> Result<Option<Words>, NoMemory>
+    ensures { IfOk result (λ found. found ≡ each_of (number_of 32) (map string_bytes words.now)) }
+{
+    let mut numbers = Words::new(alloc);
+    for word in words {
+        match word_of(word.as_str()) {
+            Some(number) => numbers.push(number)?,
+            None => return Ok(None),
+        }
+    }
+    Ok(Some(numbers))
 }
 
-/// The replies, or none where one of the words isn't one.
-fn replies_of(alloc: Global, words: &[String]) -> Result<Option<Sequence<Reply>>, NoMemory> {
+/// The replies that words write, or none where one of them writes none.
+fn replies_of(alloc: Global, words: &[String]) -> Result<Option<Sequence<Reply>>, NoMemory>
+    ensures { IfOk result (λ found. found ≡ each_of reply_of (map string_bytes words.now)) }
+{
     let mut replies = Sequence::new(alloc);
     for word in words {
         match reply_of(word.as_str()) {
@@ -86,30 +116,47 @@ fn replies_of(alloc: Global, words: &[String]) -> Result<Option<Sequence<Reply>>
     Ok(Some(replies))
 }
 
+/// The lane of eight numbers.
+fn lane_of(numbers: &[u32]) -> LanePlace
+    requires { length numbers.now ≡ 8 }
+    ensures { result ≡ lane_of numbers.now }
+{
+    LanePlace {
+        group: [numbers[0], numbers[1], numbers[2]],
+        thread: [numbers[3], numbers[4], numbers[5]],
+        lane_index: numbers[6],
+        wave_size: numbers[7],
+    }
+}
+
 impl Request {
     /// The request of the words, where they are one: the name of an entry, the group, the thread in the group, the index
     /// in the wave, the size of the wave, the turns and the replies.
     ///
     /// # Errors
     /// `NoMemory` where memory is refused.
-    pub fn from_words(alloc: Global, words: &[String]) -> Result<Option<Request>, NoMemory> {
+    pub fn from_words(alloc: Global, words: &[String]) -> Result<Option<Request>, NoMemory>
+        ensures { IfOk result (λ found. MatchOption found (IsUsage (map string_bytes words.now)) (Asks (map string_bytes words.now))) }
+    {
         if words.len() < 10 {
             return Ok(None);
         }
-        let entry = words[0].as_str();
-        if !is_name(entry.as_bytes()) {
+        if !is_name(words[0].as_bytes()) {
             return Ok(None);
         }
-        let (Some(lane), Some(turns)) = (lane_of(words), count_of(words[9].as_str())) else {
+        let Some(turns) = count_of(words[9].as_str()) else {
+            return Ok(None);
+        };
+        let Some(numbers) = numbers_of(alloc, &words[1..9])? else {
             return Ok(None);
         };
         let Some(replies) = replies_of(alloc, &words[10..])? else {
             return Ok(None);
         };
-        let entry = Text::from_slice(alloc, entry.as_bytes())?;
+        let entry = Text::from_slice(alloc, words[0].as_bytes())?;
         Ok(Some(Request {
             entry,
-            lane,
+            lane: lane_of(numbers.as_slice()),
             turns,
             replies,
         }))

@@ -1,0 +1,4 @@
+pub mod Asked
+pub mod Eaches
+pub mod Numbers
+pub mod Told

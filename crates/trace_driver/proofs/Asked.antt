@@ -1,5 +1,5 @@
 -- What words ask for, from what is read of them.
-use Rattle.std.proofs.Common.{◌≡◌, refl, sym, ap, ◌∙◌, subst, ℕ, ◌<◌, ◌≤◌, List, [], ◌∷◌, drop, length, map, get_or, take, arith}
+use Rattle.std.proofs.Common.{◌≡◌, refl, sym, ap, ◌∙◌, subst, ℕ, zero, suc, ◌<◌, ◌≤◌, List, [], ◌∷◌, drop, length, map, get_or, take, arith}
 use Rattle.std.specs.Prelude.{Option, None, Some, option_map, option_and_then, slice_get, slice_range}
 use Rattle.std.proofs.lemmas.List.{drop-map, take-map}
 use Rattle.std.proofs.lemmas.Option.{none-some, same_Some}
@@ -27,13 +27,14 @@ map-range f xs = ap (take 8) (drop-map f 1 xs) ∙ take-map f 8 (drop 1 xs)
 
 -- each of a list gives one
 pub length_each : {A B : Type 0} (f : A → Option B) (xs : List A) (ys : List B) → each_of f xs ≡ Some ys → length ys ≡ length xs
-length_each f [] ys e = ap length (sym (same_Some [] ys e))
-length_each f (x ∷ xs) ys e = by (f x) (each_of f xs) refl e
+length_each {B = B} f [] ys e = ap length (sym (same_Some [] ys e))
+length_each {B = B} f (x ∷ xs) ys e = by (f x) (each_of f xs) (λ more r. length_each f xs more r) e
   where
-    by : (o : Option B) (rest : Option (List B)) → each_of f xs ≡ rest → option_and_then (λ y. option_map (λ more. y ∷ more) rest) o ≡ Some ys → length ys ≡ length (x ∷ xs)
+    by : (o : Option B) (rest : Option (List B)) → ((more : List B) → rest ≡ Some more → length more ≡ length xs)
+        → option_and_then (λ y. option_map (λ more. y ∷ more) rest) o ≡ Some ys → length ys ≡ length (x ∷ xs)
     by None rest r e = absurd (none-some ys e)
     by (Some y) None r e = absurd (none-some ys e)
-    by (Some y) (Some more) r e = let n : length more ≡ length xs = length_each f xs more r in sym (ap length (same_Some (y ∷ more) ys e)) ∙ ap suc n
+    by (Some y) (Some more) r e = let n : length more ≡ length xs = r more refl in sym (ap length (same_Some (y ∷ more) ys e)) ∙ ap suc n
 
 -- ---- words that ask for no lane
 

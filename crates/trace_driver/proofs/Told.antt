@@ -9,12 +9,12 @@ use Rattle.base_core.specs.Ends.{TakesFront}
 use Rattle.base_core.specs.declared.whole.ReadStop.{ReadStop}
 use Rattle.base_core.specs.declared.whole.ReadStop.TheVariants.{Fault, TooLong as TookTooMuch, Memory as NoRoomToRead}
 use Rattle.hl_meaning.specs.Programs.{Program}
-use Rattle.dxil_driver.specs.CompileFaults.{HasProgramFault}
+use Rattle.dxil_driver.specs.CompileFaults.{GivesProgram, HasProgram, HasProgramFault}
 use Rattle.dxil_driver.specs.Compiled.{most_source}
 use Rattle.dxil_driver.specs.Refusal.{refusal_of_compile, refusal_of_stop, status_of}
 use Rattle.dxil_driver.specs.Tool.{IsDoneOrMemory, IsStop, TakesAll}
 use Rattle.dxil_driver.specs.declared.compiler.CompileFault.{CompileFault}
-use Rattle.dxil_driver.specs.declared.compiler.CompileFault.TheVariants.{Memory as NoRoomToCompile}
+use Rattle.dxil_driver.specs.declared.compiler.CompileFault.TheVariants.{TooLong as TextTooLong, Lex, Parse, Rule as BadProgram, Unbuilt, Memory as NoRoomToCompile}
 use Rattle.dxil_driver.specs.declared.refusal.Refusal.{Refusal}
 use Rattle.dxil_driver.specs.declared.refusal.Refusal.TheVariants.{Usage, ReadFault, TooLong, BadByte, NumberTooLarge, TooManyTokens, Syntax, TooDeep, Rule, NotBuilt, Container, Stream, Records, Broken, Memory}
 use Rattle.dxil_driver.specs.declared.status.Status.{Status}
@@ -27,6 +27,37 @@ use Rattle.trace_driver.specs.declared.request.Request.{Request}
 pub refused_for : {T : Type 0} (P : Refusal → Type 0) (r : Result T Refusal) (refusal : Refusal) → IsErrAnd r (λ x. x ≡ refusal) → P refusal → IfErr r P
 refused_for P (Ok value) refusal is h = absurd is
 refused_for P (Err other) refusal is h = subst P (sym is) h
+
+-- a value is no error
+no_error : {T E : Type 0} {value : T} {one other : E} → IsErrOf (Ok value) one ⊎ IsErrOf (Ok value) other → ⊥
+no_error (inl e) = cc
+no_error (inr e) = cc
+
+-- ---- the text
+
+module _ (text entry : List ℕ) where
+  -- a text that has a program isn't refused
+  pub has_no_fault : {T : Type 0} (value : T) → ((fault : CompileFault) → HasProgramFault text entry fault → IsErrOf (Ok value) fault ⊎ IsErrOf (Ok value) NoRoomToCompile)
+      → (fault : CompileFault) → HasProgramFault text entry fault → ⊥
+  has_no_fault value every fault h = no_error (every fault h)
+
+  pub fault_answer : (r : Result (List ℕ) CompileFault) (fault : CompileFault) → IsErrAnd r (λ x. x ≡ fault) → (fault ≡ NoRoomToCompile) ⊎ HasProgramFault text entry fault
+      → IfErr r (λ x. (x ≡ NoRoomToCompile) ⊎ HasProgramFault text entry x)
+  fault_answer (Ok bytes) fault is h = absurd is
+  fault_answer (Err other) fault is h = subst (λ (x : CompileFault). (x ≡ NoRoomToCompile) ⊎ HasProgramFault text entry x) (sym is) h
+
+  -- the fault of a text that has a program is want of memory
+  pub memory_alone : (r : Result (List ℕ) CompileFault) (fault : CompileFault) → IsErrAnd r (λ x. x ≡ fault) → ((program : Program) → HasProgram text entry program → GivesProgram (Err fault) program)
+      → (program : Program) × HasProgram text entry program → IfErr r (λ x. x ≡ NoRoomToCompile)
+  memory_alone (Ok bytes) fault is every traced = absurd is
+  memory_alone (Err other) fault is every (program, h) = is ∙ by fault (every program h) where
+    by : (f : CompileFault) → GivesProgram (Err f) program → f ≡ NoRoomToCompile
+    by NoRoomToCompile g = refl
+    by TextTooLong g = absurd g
+    by (Lex found) g = absurd g
+    by (Parse found place) g = absurd g
+    by (BadProgram found place) g = absurd g
+    by Unbuilt g = absurd g
 
 -- ---- the input
 

@@ -1,5 +1,5 @@
 -- The lines of events and outcomes: what a lane asks, and how its run ends, as bytes.
-use Rattle.std.specs.Prelude.{ℕ, List, [], ◌∷◌, ◌++◌, codes, decimal, take}
+use Rattle.std.specs.Prelude.{ℕ, List, [], ◌∷◌, ◌++◌, codes, decimal, flat_map, take}
 use Rattle.lane_core.specs.Lane.{Run}
 use Rattle.lane_core.specs.declared.event.Asked.{Asked}
 use Rattle.lane_core.specs.declared.event.Asked.TheVariants.{Asks, Ended, Fault, Goes}
@@ -48,32 +48,39 @@ wave_name BitXor = codes "bit-xor"
 wave_name PrefixSum = codes "prefix-sum"
 wave_name PrefixProduct = codes "prefix-product"
 
--- numbers in decimal digits, each behind a space, and what follows them
-abbrev pub numbers : List ℕ → (behind : List ℕ) → List ℕ
-numbers [] behind = behind
-numbers (n ∷ ns) behind = codes " " ++ (decimal n ++ numbers ns behind)
+-- numbers in decimal digits, each behind a space
+abbrev pub numbers : List ℕ → List ℕ
+numbers [] = []
+numbers (n ∷ ns) = codes " " ++ (decimal n ++ numbers ns)
 
--- where an event of a buffer is, and what follows it: the class, the space and the register of the buffer, the index and
--- the offset
-abbrev pub buffer_place : Slot → (index offset : ℕ) → (behind : List ℕ) → List ℕ
-buffer_place slot index offset behind = numbers (slot.class ∷ slot.space ∷ slot.register ∷ index ∷ offset ∷ []) behind
+-- where an event of a buffer is: the class, the space and the register of the buffer, the index and the offset, each behind
+-- a space
+abbrev pub buffer_place : Slot → (index offset : ℕ) → List ℕ
+buffer_place slot index offset =
+    codes " " ++ (decimal slot.class ++ (codes " " ++ (decimal slot.space ++ (codes " " ++ (decimal slot.register
+    ++ (codes " " ++ (decimal index ++ (codes " " ++ decimal offset))))))))
 
 -- the line of an event
 abbrev pub event_line : Event → List ℕ
-event_line (BufferLoad slot index offset) = codes "buffer-load" ++ buffer_place slot index offset line_feed
-event_line (BufferStore slot index offset count words) = codes "buffer-store" ++ buffer_place slot index offset (numbers (take count words) line_feed)
+event_line (BufferLoad slot index offset) = codes "buffer-load" ++ (buffer_place slot index offset ++ line_feed)
+event_line (BufferStore slot index offset count words) =
+    codes "buffer-store" ++ (buffer_place slot index offset ++ (numbers (take count words) ++ line_feed))
 event_line (BufferAtomic slot index offset kind word) =
-    codes "buffer-atomic" ++ buffer_place slot index offset (codes " " ++ (atomic_name kind ++ numbers (word ∷ []) line_feed))
+    codes "buffer-atomic" ++ (buffer_place slot index offset ++ (codes " " ++ (atomic_name kind ++ (codes " " ++ (decimal word ++ line_feed)))))
 event_line (BufferCompareExchange slot index offset compare word) =
-    codes "buffer-compare-exchange" ++ buffer_place slot index offset (numbers (compare ∷ word ∷ []) line_feed)
-event_line (SharedLoad cell) = codes "shared-load" ++ numbers (cell.variable ∷ cell.word ∷ []) line_feed
-event_line (SharedStore cell value) = codes "shared-store" ++ numbers (cell.variable ∷ cell.word ∷ value ∷ []) line_feed
+    codes "buffer-compare-exchange" ++ (buffer_place slot index offset ++ (codes " " ++ (decimal compare ++ (codes " " ++ (decimal word ++ line_feed)))))
+event_line (SharedLoad cell) = codes "shared-load " ++ (decimal cell.variable ++ (codes " " ++ (decimal cell.word ++ line_feed)))
+event_line (SharedStore cell value) =
+    codes "shared-store " ++ (decimal cell.variable ++ (codes " " ++ (decimal cell.word ++ (codes " " ++ (decimal value ++ line_feed)))))
 event_line (SharedAtomic cell kind value) =
-    codes "shared-atomic" ++ numbers (cell.variable ∷ cell.word ∷ []) (codes " " ++ (atomic_name kind ++ numbers (value ∷ []) line_feed))
+    codes "shared-atomic " ++ (decimal cell.variable ++ (codes " " ++ (decimal cell.word ++ (codes " " ++ (atomic_name kind
+    ++ (codes " " ++ (decimal value ++ line_feed)))))))
 event_line (SharedCompareExchange cell compare value) =
-    codes "shared-compare-exchange" ++ numbers (cell.variable ∷ cell.word ∷ compare ∷ value ∷ []) line_feed
-event_line (Barrier mode) = codes "barrier" ++ numbers (mode ∷ []) line_feed
-event_line (Wave kind operand lane) = codes "wave " ++ (wave_name kind ++ numbers (operand ∷ lane ∷ []) line_feed)
+    codes "shared-compare-exchange " ++ (decimal cell.variable ++ (codes " " ++ (decimal cell.word ++ (codes " " ++ (decimal compare
+    ++ (codes " " ++ (decimal value ++ line_feed)))))))
+event_line (Barrier mode) = codes "barrier " ++ (decimal mode ++ line_feed)
+event_line (Wave kind operand lane) =
+    codes "wave " ++ (wave_name kind ++ (codes " " ++ (decimal operand ++ (codes " " ++ (decimal lane ++ line_feed)))))
 
 -- the line of a fault; a lane of a source has no shift that goes too far
 abbrev pub fault_line : LaneFault → List ℕ
@@ -89,11 +96,6 @@ outcome_lines Ended = line (codes "ended")
 outcome_lines (Fault fault) = fault_line fault
 outcome_lines Goes = line (codes "goes")
 
--- the lines of events, in order, and what follows them
-abbrev pub event_lines : List Event → (behind : List ℕ) → List ℕ
-event_lines [] behind = behind
-event_lines (event ∷ events) behind = event_line event ++ event_lines events behind
-
--- the lines of a run
+-- the lines of a run: those of the events that had a reply, in order, and the last ones
 abbrev pub run_lines : Run → List ℕ
-run_lines run = event_lines run.events (outcome_lines run.outcome)
+run_lines run = flat_map event_line run.events ++ outcome_lines run.outcome

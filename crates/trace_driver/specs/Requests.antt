@@ -37,9 +37,13 @@ four_parts text =
     before_comma text ∷ before_comma (behind_comma text) ∷ before_comma (behind_comma (behind_comma text))
     ∷ behind_comma (behind_comma (behind_comma text)) ∷ []
 
+-- a reply of its parts, each of which writes a word
+abbrev pub reply_with : List (List ℕ) → Option Reply
+reply_with parts = option_map (λ words. record { words = words }) (each_of (number_of 32) parts)
+
 -- a reply: its four words, in order, with commas between
 abbrev pub reply_of : List ℕ → Option Reply
-reply_of text = option_map (λ words. record { words = words }) (each_of (number_of 32) (four_parts text))
+reply_of text = reply_with (four_parts text)
 
 -- a lane by eight numbers: the group, the thread in the group, the index in the wave, and the size of the wave
 abbrev pub lane_of : List ℕ → LanePlace

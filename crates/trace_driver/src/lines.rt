@@ -1,9 +1,7 @@
 //! The lines of events and outcomes.
 
-ghost use Rattle.std.specs.Prelude.{◌≡◌, ◌++◌, codes, IfOk, string_bytes};
+ghost use Rattle.std.specs.Prelude.{◌≡◌, IfOk, string_bytes};
 ghost use Rattle.hl_interpreter.specs.Runs.{run_of};
-ghost use Rattle.lane_core.specs.declared.event.Event.{Event};
-ghost use Rattle.dxil_driver.specs.Refusal.{line_feed};
 ghost use Rattle.trace_driver.specs.Lines.{atomic_name, event_line, fault_line, numbers, buffer_place, outcome_lines, run_lines, wave_name};
 
 use base_core::{Bytes, NoMemory};
@@ -54,29 +52,33 @@ fn wave_name(kind: WaveKind) -> &'static str
     }
 }
 
-/// The line of a store.
-fn store_line(
+/// Where an event of a buffer is: five numbers, each behind a space.
+fn buffer_place(
     alloc: Global,
     slot: Slot,
     index: u32,
     offset: u32,
-    words: &[u32],
 ) -> Result<String, AllocError>
-    ensures { IfOk result (λ line. string_bytes line ≡ codes "buffer-store" ++ buffer_place slot index offset (numbers words.now line_feed)) }
+    ensures { IfOk result (λ text. string_bytes text ≡ buffer_place slot index offset) }
 {
     let Slot {
         class,
         space,
         register,
     } = slot;
-    let mut line =
-        format!(in alloc; "buffer-store {class} {space} {register} {index} {offset}")?;
+    format!(in alloc; " {class} {space} {register} {index} {offset}")
+}
+
+/// Words as numbers, each behind a space.
+fn numbers(alloc: Global, words: &[u32]) -> Result<String, AllocError>
+    ensures { IfOk result (λ text. string_bytes text ≡ numbers words.now) }
+{
+    let mut text = String::new(alloc);
     for word in words {
         let more = format!(in alloc; " {word}")?;
-        line.push_str(more.as_str())?;
+        text.push_str(more.as_str())?;
     }
-    line.push_str("\n")?;
-    Ok(line)
+    Ok(text)
 }
 
 /// The line of an event.
@@ -85,16 +87,12 @@ fn event_line(alloc: Global, event: Event) -> Result<String, AllocError>
 {
     match event {
         Event::BufferLoad {
-            slot:
-                Slot {
-                    class,
-                    space,
-                    register,
-                },
+            slot,
             index,
             offset,
         } => {
-            format!(in alloc; "buffer-load {class} {space} {register} {index} {offset}\n")
+            let place = buffer_place(alloc, slot, index, offset)?;
+            format!(in alloc; "buffer-load{place}\n")
         }
         Event::BufferStore {
             slot,
@@ -103,41 +101,31 @@ fn event_line(alloc: Global, event: Event) -> Result<String, AllocError>
             count,
             words,
         } => {
+            let place = buffer_place(alloc, slot, index, offset)?;
             let count = (count as usize).min(4);
-            store_line(alloc, slot, index, offset, &words[..count])
+            let words = numbers(alloc, &words[..count])?;
+            format!(in alloc; "buffer-store{place}{words}\n")
         }
         Event::BufferAtomic {
-            slot:
-                Slot {
-                    class,
-                    space,
-                    register,
-                },
+            slot,
             index,
             offset,
             kind,
             word,
         } => {
+            let place = buffer_place(alloc, slot, index, offset)?;
             let name = atomic_name(kind);
-            format!(in alloc;
-                "buffer-atomic {class} {space} {register} {index} {offset} {name} {word}\n"
-            )
+            format!(in alloc; "buffer-atomic{place} {name} {word}\n")
         }
         Event::BufferCompareExchange {
-            slot:
-                Slot {
-                    class,
-                    space,
-                    register,
-                },
+            slot,
             index,
             offset,
             compare,
             word,
         } => {
-            format!(in alloc;
-                "buffer-compare-exchange {class} {space} {register} {index} {offset} {compare} {word}\n"
-            )
+            let place = buffer_place(alloc, slot, index, offset)?;
+            format!(in alloc; "buffer-compare-exchange{place} {compare} {word}\n")
         }
         Event::SharedLoad {
             cell: Cell { variable, word },

@@ -1,9 +1,8 @@
 //! What is asked for: the words of the command line.
 
-ghost use Rattle.std.specs.Prelude.{◌≡◌, ◌≤◌, None, length, drop, IfOk, MatchOption, map, string_bytes};
+ghost use Rattle.std.specs.Prelude.{◌≡◌, [], ◌∷◌, length, IfOk, MatchOption, map, string_bytes};
 ghost use Rattle.std.specs.Str.{all_ascii_digits};
-ghost use Rattle.lane_core.specs.declared.event.Reply.{Reply};
-ghost use Rattle.trace_driver.specs.Requests.{Asks, IsUsage, behind_comma, before_comma, each_of, is_decimal, lane_of, number_of, reply_of};
+ghost use Rattle.trace_driver.specs.Requests.{Asks, IsUsage, behind_comma, before_comma, each_of, is_decimal, lane_of, number_of, reply_of, reply_with};
 
 use base_core::{NoMemory, Sequence, Text, Words};
 use hl_interpreter::LanePlace;
@@ -72,13 +71,10 @@ fn at_comma(text: &str) -> (&str, &str)
     }
 }
 
-/// A reply: four decimal numbers with commas between.
-fn reply_of(text: &str) -> Option<Reply>
-    ensures { result ≡ reply_of text.now }
+/// A reply of its four words.
+fn reply_with(first: &str, second: &str, third: &str, fourth: &str) -> Option<Reply>
+    ensures { result ≡ reply_with (first.now ∷ second.now ∷ third.now ∷ fourth.now ∷ []) }
 {
-    let (first, rest) = at_comma(text);
-    let (second, rest) = at_comma(rest);
-    let (third, fourth) = at_comma(rest);
     let words = [
         word_of(first)?,
         word_of(second)?,
@@ -86,6 +82,16 @@ fn reply_of(text: &str) -> Option<Reply>
         word_of(fourth)?,
     ];
     Some(Reply { words })
+}
+
+/// A reply: four decimal numbers with commas between.
+fn reply_of(text: &str) -> Option<Reply>
+    ensures { result ≡ reply_of text.now }
+{
+    let (first, rest) = at_comma(text);
+    let (second, rest) = at_comma(rest);
+    let (third, fourth) = at_comma(rest);
+    reply_with(first, second, third, fourth)
 }
 
 /// The numbers that words write, or none where one of them writes none.

@@ -27,7 +27,8 @@ pub(crate) fn source_lines(
     ensures accepted { OnOk result (¬ IsRefusedText request.now text.now) }
     ensures complete { length text.now ≤ most_source → IsTraced request.now text.now → IfErr result (λ fault. fault ≡ CompileFault.Memory) }
 {
-    let program = program_of(alloc, text, request.entry.as_slice())?;
+    let entry = request.entry.as_slice();
+    let program = program_of(alloc, text, entry)?;
     let replies = request.replies.as_slice();
     let run = run_lane(alloc, &program, request.lane, replies, request.turns)?;
     let lines = run_lines(alloc, &run)?;

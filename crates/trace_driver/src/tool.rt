@@ -108,7 +108,7 @@ pub fn trace<I: Source, O: Sink, N: Sink>(
     notes: &mut N,
 ) -> Status
     // The output has the lines for all that was left, and the notes have nothing.
-    ensures done { result ≡ Status.Done → IsDone I.left I.taken O.written N.written
+    ensures done { result ≡ Status.Done → IsDone I.left I.taken I.faults O.written N.written
         (map string_bytes words.now) input.old input.new output.old output.new notes.old notes.new }
 
     // One whole line was told, that of a refusal that stands and has this status, and nothing was written to the output.
@@ -118,7 +118,7 @@ pub fn trace<I: Source, O: Sink, N: Sink>(
 
     // The output failed in the lines, or the notes in the line of a refusal that stands.
     ensures write_fault { result ≡ Status.WriteFault →
-        FailsOutput I.left I.taken O.written N.written (map string_bytes words.now)
+        FailsOutput I.left I.taken I.faults O.written N.written (map string_bytes words.now)
         input.old input.new output.old output.new notes.old notes.new O.faults N.faults
         ⊎ FailsNotes I.left I.taken I.faults O.written N.written (map string_bytes words.now)
         input.old input.new output.old output.new notes.old notes.new N.faults }

@@ -8,6 +8,9 @@ use Rattle.base_core.specs.Counts.{HasRisen}
 use Rattle.base_core.specs.Ends.{TakesFront}
 use Rattle.base_core.specs.declared.whole.ReadStop.{ReadStop}
 use Rattle.base_core.specs.declared.whole.ReadStop.TheVariants.{Fault, TooLong as TookTooMuch, Memory as NoRoomToRead}
+use Rattle.hl_lexer.specs.declared.fault.LexFault.TheVariants.{BadByte as NoToken, NumberTooLarge as LargeNumber, TooManyTokens as MoreTokens, Memory as NoRoomForTokens}
+use Rattle.hl_parser.specs.declared.fault.ParseFault.TheVariants.{Syntax as NoProgram, TooDeep as DeepTree, Memory as NoRoomForTree}
+use Rattle.hl_types.specs.declared.fault.RuleFault.TheVariants.{Broken as BrokenRule, Memory as NoRoomForProgram}
 use Rattle.hl_meaning.specs.Programs.{Program}
 use Rattle.dxil_driver.specs.CompileFaults.{GivesProgram, HasProgram, HasProgramFault}
 use Rattle.dxil_driver.specs.Compiled.{most_source}
@@ -27,6 +30,11 @@ use Rattle.trace_driver.specs.declared.request.Request.{Request}
 pub refused_for : {T : Type 0} (P : Refusal → Type 0) (r : Result T Refusal) (refusal : Refusal) → IsErrAnd r (λ x. x ≡ refusal) → P refusal → IfErr r P
 refused_for P (Ok value) refusal is h = absurd is
 refused_for P (Err other) refusal is h = subst P (sym is) h
+
+-- want of memory stays what it is
+pub compile_memory : {T : Type 0} (r : Result T Refusal) (fault : CompileFault) → IsErrAnd r (λ x. x ≡ refusal_of_compile fault) → fault ≡ NoRoomToCompile → IfErr r (λ refusal. refusal ≡ Memory)
+compile_memory (Ok value) fault is memory = absurd is
+compile_memory (Err other) fault is memory = is ∙ ap refusal_of_compile memory
 
 -- a value is no error
 no_error : {T E : Type 0} {value : T} {one other : E} → IsErrOf (Ok value) one ⊎ IsErrOf (Ok value) other → ⊥
@@ -138,6 +146,61 @@ done_or_memory noted note_faults old new refusal answer request (Some all) compl
 done_or_memory noted note_faults old new refusal answer request (Some all) complete (inl (inr (fault, cuts))) = λ within traced. inr (inr (fault, cuts.1))
 done_or_memory noted note_faults old new refusal answer request (Some all) complete (inr (inl (same, appends))) = λ within traced. inr (inl same)
 done_or_memory noted note_faults old new refusal answer request (Some all) complete (inr (inr (fault, cuts))) = λ within traced. inr (inr (fault, cuts.1))
+
+-- ---- reasons to stop
+
+-- no text is refused as other words are
+never_usage : (fault : CompileFault) → refusal_of_compile fault ≢ Usage
+never_usage TextTooLong same = cc
+never_usage (Lex (NoToken place)) same = cc
+never_usage (Lex (LargeNumber place)) same = cc
+never_usage (Lex MoreTokens) same = cc
+never_usage (Lex NoRoomForTokens) same = cc
+never_usage (Parse (NoProgram at) place) same = cc
+never_usage (Parse DeepTree place) same = cc
+never_usage (Parse NoRoomForTree place) same = cc
+never_usage (BadProgram (BrokenRule rule at) place) same = cc
+never_usage (BadProgram NoRoomForProgram place) same = cc
+never_usage Unbuilt same = cc
+never_usage NoRoomToCompile same = cc
+
+pub stands_other : {I : Type 0} (left : I → Option (List ℕ)) (taken faults : I → ℕ) (old new : I) (request : Request) (refusal : Refusal)
+    → StandsFor left taken old new faults request refusal → refusal ≢ Usage
+stands_other left taken faults old new request _ (read_failed risen) same = cc
+stands_other left taken faults old new request _ (is_too_long bytes takes long) same = cc
+stands_other left taken faults old new request _ (is_refused text refusal takes refused) same = never_usage refused.fault (sym refused.answer ∙ same)
+stands_other left taken faults old new request _ no_memory same = cc
+
+stop_of : (refusal : Refusal) → refusal ≢ Usage → IsStop (status_of refusal)
+stop_of Usage other = absurd (other refl)
+stop_of ReadFault other = tt
+stop_of TooLong other = tt
+stop_of (BadByte place) other = tt
+stop_of (NumberTooLarge place) other = tt
+stop_of TooManyTokens other = tt
+stop_of (Syntax place) other = tt
+stop_of TooDeep other = tt
+stop_of (Rule rule place) other = tt
+stop_of NotBuilt other = tt
+stop_of (Container fault) other = tt
+stop_of (Stream kind bit) other = tt
+stop_of (Records kind block at) other = tt
+stop_of (Broken rule spot) other = tt
+stop_of Memory other = tt
+
+-- what was told of a refusal, but for other words, is a stop
+pub stops_told : {N : Type 0} (noted : N → Option (List ℕ)) (note_faults : N → ℕ) (old new : N) (refusal : Refusal) (answer : Status) (request : Request) (left : Option (List ℕ))
+    → TellsOf noted note_faults old new refusal answer → refusal ≢ Usage → IfSome left (λ all. IsRefusedText request all → IsStop answer)
+stops_told noted note_faults old new refusal answer request left told other = anyway left (stop told) where
+  stop : TellsOf noted note_faults old new refusal answer → IsStop answer
+  stop (inl (inl (same, appends))) = subst IsStop (sym same) (stop_of refusal other)
+  stop (inl (inr (fault, cuts))) = subst IsStop (sym fault) tt
+  stop (inr (inl (same, appends))) = subst IsStop (sym same) tt
+  stop (inr (inr (fault, cuts))) = subst IsStop (sym fault) tt
+
+  anyway : (all : Option (List ℕ)) → IsStop answer → IfSome all (λ text. IsRefusedText request text → IsStop answer)
+  anyway None h = tt
+  anyway (Some text) h = λ refused. h
 
 -- a text that isn't refused gives no reason to stop
 pub stops_refused : (request : Request) (left : Option (List ℕ)) (status : Status) → IfSome left (λ all. ¬ IsRefusedText request all)

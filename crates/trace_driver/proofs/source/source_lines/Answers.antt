@@ -23,7 +23,7 @@ pub returns-clause-gives : goal.returns-clause-gives
 returns-clause-gives c = record {
   program = plain_program c.in_ok-program.program;
   is_program = subst (λ (entry : List ℕ). HasProgram c.args.text.now entry (plain_program c.in_ok-program.program)) c.as_slice-entry.ensures.value c.in_ok-program.ensures.program;
-  run = run_of c.in_ok-run.run;
+  run = run_of c.in_ok-run.run';
   is_run = rw c.as_slice-replies.ensures.value at c.in_ok-run.ensures;
   lines = c.in_ok-lines.ensures;
 }

@@ -11,7 +11,7 @@ use Rattle.trace_driver.specs.Requests.{Asks, IsUsage}
 use Rattle.trace_driver.specs.Traces.{IsRefusedText, IsTraced, is_stopped, is_usage, no_room}
 use Rattle.trace_driver.specs.declared.request.Request.{Request}
 use Rattle.trace_driver.proofs.Asked.{same_request}
-use Rattle.trace_driver.proofs.Told.{done_or_memory, fails_notes, is_told, stops_refused}
+use Rattle.trace_driver.proofs.Told.{done_or_memory, fails_notes, is_told, stands_other, stops_refused, stops_told}
 use Rattle.trace_driver.proofs.tool.trace.Goals as goal
 
 pub returns-in-Err-clause-told : goal.returns-in-Err-clause-told
@@ -75,3 +75,8 @@ returns-clause-complete g c = λ request words calm quiet.
     subst (λ (k : Request). IfSome (g.I.Source.left c.args.input.now) (λ all. length all ≤ most_source → IsTraced k all → IsDoneOrMemory c.refuse-in-Err-run.result (HasRisen (g.N.Sink.faults c.args.notes.now) (g.N.Sink.faults c.refuse-in-Err-run.new.notes))))
     (same_request (map string_bytes c.args.words.now) c.in-Ok-Some.request request (MatchOption-at_some (IsUsage (map string_bytes c.args.words.now)) (Asks (map string_bytes c.args.words.now)) c.in-Ok-Some.request c.in-Ok-Some.field-0-is c.in-Ok-Some.ensures) words)
     (done_or_memory g.N.Sink.written g.N.Sink.faults c.args.notes.now c.refuse-in-Err-run.new.notes c.in-Err-run.refusal c.refuse-in-Err-run.result c.in-Ok-Some.request (g.I.Source.left c.args.input.now) (c.in-Err-run.ensures.complete calm) c.refuse-in-Err-run.ensures.told)
+
+pub returns-clause-refusals : goal.returns-clause-refusals
+returns-clause-refusals g c = λ request words.
+    stops_told g.N.Sink.written g.N.Sink.faults c.args.notes.now c.refuse-in-Err-run.new.notes c.in-Err-run.refusal c.refuse-in-Err-run.result request (g.I.Source.left c.args.input.now)
+    c.refuse-in-Err-run.ensures.told (stands_other g.I.Source.left g.I.Source.taken g.I.Source.faults c.args.input.now c.run.new.input c.in-Ok-Some.request c.in-Err-run.refusal c.in-Err-run.ensures.cause)

@@ -1,7 +1,7 @@
 -- What a run of the tool is refused for, and what it tells then.
 use mathlib.Core.Logic.{inl, inr}
 use Rattle.std.proofs.Common.{◌≡◌, refl, sym, ap, ◌∙◌, subst, ℕ, ◌+◌, ◌<◌, ◌≤◌, List, length, arith}
-use Rattle.std.specs.Prelude.{◌≢◌, ◌⊎◌, IfErr, IfOk, IfSome, IsErrAnd, Option, None, Some, Result, Ok, Err}
+use Rattle.std.specs.Prelude.{◌≢◌, ◌⊎◌, IfErr, IfSome, IsErrAnd, Option, None, Some, Result, Ok, Err}
 use Rattle.std.specs.Io.KnownBytes.{Keeps}
 use Rattle.std.specs.Result.{IsErrOf}
 use Rattle.base_core.specs.Counts.{HasRisen}
@@ -21,8 +21,7 @@ use Rattle.dxil_driver.specs.declared.compiler.CompileFault.TheVariants.{TooLong
 use Rattle.dxil_driver.specs.declared.refusal.Refusal.{Refusal}
 use Rattle.dxil_driver.specs.declared.refusal.Refusal.TheVariants.{Usage, ReadFault, TooLong, BadByte, NumberTooLarge, TooManyTokens, Syntax, TooDeep, Rule, NotBuilt, Container, Stream, Records, Broken, Memory}
 use Rattle.dxil_driver.specs.declared.status.Status.{Status}
-use Rattle.dxil_driver.specs.declared.status.Status.TheVariants.{WriteFault, Memory as MemoryStatus}
-use Rattle.trace_driver.specs.Requests.{Asks}
+use Rattle.dxil_driver.specs.declared.status.Status.TheVariants.{WriteFault}
 use Rattle.trace_driver.specs.Traces.{FailsNotes, IsRefusedText, IsTold, IsTraced, Stands, StandsFor, TellsOf, Traces, TracesAll, is_refused, is_too_long, no_memory, read_failed}
 use Rattle.trace_driver.specs.declared.request.Request.{Request}
 

@@ -5,7 +5,6 @@ use Rattle.lane_core.specs.declared.event.Asked.{Asked}
 use Rattle.lane_core.specs.declared.event.Asked.TheVariants.{Asks, Ended, Fault, Goes}
 use Rattle.lane_core.specs.declared.event.AtomicKind.{AtomicKind}
 use Rattle.lane_core.specs.declared.event.AtomicKind.TheVariants.{Add, And, Or, Xor, IMin, IMax, UMin, UMax, Exchange}
-use Rattle.lane_core.specs.declared.event.Cell.{Cell}
 use Rattle.lane_core.specs.declared.event.Event.{Event}
 use Rattle.lane_core.specs.declared.event.Event.TheVariants.{BufferLoad, BufferStore, BufferAtomic, BufferCompareExchange, SharedLoad, SharedStore, SharedAtomic, SharedCompareExchange, Barrier, Wave}
 use Rattle.lane_core.specs.declared.event.LaneFault.{LaneFault}

@@ -1,5 +1,5 @@
 -- Which words ask for which lane.
-use Rattle.std.specs.Prelude.{◌≡◌, ℕ, ◌^◌, ◌==◌, ◌&&◌, Bool, if◌then◌else◌, List, [], ◌∷◌, ◌++◌, length, drop, nat_lt, slice_get, slice_index, slice_range, Option, Some, None, option_map, option_and_then}
+use Rattle.std.specs.Prelude.{◌≡◌, ℕ, ◌^◌, ◌==◌, ◌&&◌, Bool, if◌then◌else◌, List, [], ◌∷◌, length, drop, nat_lt, slice_get, slice_index, slice_range, Option, Some, None, option_map, option_and_then}
 use Rattle.std.specs.List.{after_first, before_first}
 use Rattle.std.specs.Str.{all_ascii_digits}
 use Rattle.std.specs.Str.Parse.{digits_value}

@@ -1,5 +1,5 @@
 -- What the tool writes, and the status that it answers, for words, an input, an output and notes.
-use Rattle.std.specs.Prelude.{◌≡◌, ℕ, ◌<◌, ◌≤◌, ◌⊎◌, List, length, codes, Option, Some, ⊤}
+use Rattle.std.specs.Prelude.{◌≡◌, ℕ, ◌<◌, ◌⊎◌, List, length, codes, Option, Some}
 use Rattle.std.specs.Io.KnownBytes.{Appends, Keeps}
 use Rattle.base_core.specs.Counts.{HasRisen}
 use Rattle.lane_core.specs.Lane.{Run}

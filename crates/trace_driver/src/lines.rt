@@ -53,12 +53,7 @@ fn wave_name(kind: WaveKind) -> &'static str
 }
 
 /// Where an event of a buffer is: five numbers, each behind a space.
-fn buffer_place(
-    alloc: Global,
-    slot: Slot,
-    index: u32,
-    offset: u32,
-) -> Result<String, AllocError>
+fn buffer_place(alloc: Global, slot: Slot, index: u32, offset: u32) -> Result<String, AllocError>
     ensures { IfOk result (λ text. string_bytes text ≡ buffer_place slot index offset) }
 {
     let Slot {
@@ -129,15 +124,11 @@ fn event_line(alloc: Global, event: Event) -> Result<String, AllocError>
         }
         Event::SharedLoad {
             cell: Cell { variable, word },
-        } => {
-            format!(in alloc; "shared-load {variable} {word}\n")
-        }
+        } => { format!(in alloc; "shared-load {variable} {word}\n") }
         Event::SharedStore {
             cell: Cell { variable, word },
             word: value,
-        } => {
-            format!(in alloc; "shared-store {variable} {word} {value}\n")
-        }
+        } => { format!(in alloc; "shared-store {variable} {word} {value}\n") }
         Event::SharedAtomic {
             cell: Cell { variable, word },
             kind,
@@ -150,9 +141,7 @@ fn event_line(alloc: Global, event: Event) -> Result<String, AllocError>
             cell: Cell { variable, word },
             compare,
             word: value,
-        } => {
-            format!(in alloc; "shared-compare-exchange {variable} {word} {compare} {value}\n")
-        }
+        } => { format!(in alloc; "shared-compare-exchange {variable} {word} {compare} {value}\n") }
         Event::Barrier { mode } => format!(in alloc; "barrier {mode}\n"),
         Event::Wave {
             kind,

@@ -1,6 +1,6 @@
 -- What is answered is answered for all that was left.
-use Rattle.std.proofs.Common.{rules, ap, ◌∙◌, ◌≡◌, ◌≤◌, List, ℕ, length, subst, sym, Err, Result}
-use Rattle.std.specs.Prelude.{◌⊎◌, IfErr, IfOk}
+use Rattle.std.proofs.Common.{rules, ap, ◌≡◌, ◌≤◌, List, ℕ, length, subst, sym, Err}
+use Rattle.std.specs.Prelude.{◌⊎◌, IfErr}
 use Rattle.base_core.specs.declared.whole.ReadStop.{ReadStop}
 use Rattle.dxil_driver.specs.CompileFaults.{HasProgramFault}
 use Rattle.dxil_driver.specs.Refusal.{refusal_of_compile, refusal_of_stop}

@@ -46,23 +46,23 @@ returns-clause-write_fault g c = λ fault.
 
 pub returns-in-Ok-clause-done : goal.returns-in-Ok-clause-done
 returns-in-Ok-clause-done g c = λ done. record {
-    request = c.in-Ok-Some.request;
-    asked = (MatchOption-at_some (IsUsage (map string_bytes c.args.words.now)) (Asks (map string_bytes c.args.words.now)) c.in-Ok-Some.request c.in-Ok-Some.field-0-is c.in-Ok-Some.ensures);
-    bytes = c.in-Ok.lines;
-    traced = c.in-Ok.ensures.gives;
-    output = subst (λ (lines : List ℕ). Appends (g.O.Sink.written c.args.output.now) (g.O.Sink.written c.deliver.new.output) lines) c.as_slice.ensures.value (c.deliver.ensures.done done).0;
-    notes = (c.deliver.ensures.done done).1;
-  }
+  request = c.in-Ok-Some.request;
+  asked = (MatchOption-at_some (IsUsage (map string_bytes c.args.words.now)) (Asks (map string_bytes c.args.words.now)) c.in-Ok-Some.request c.in-Ok-Some.field-0-is c.in-Ok-Some.ensures);
+  bytes = c.in-Ok.lines;
+  traced = c.in-Ok.ensures.gives;
+  output = subst (λ (lines : List ℕ). Appends (g.O.Sink.written c.args.output.now) (g.O.Sink.written c.deliver.new.output) lines) c.as_slice.ensures.value (c.deliver.ensures.done done).0;
+  notes = (c.deliver.ensures.done done).1;
+}
 
 pub returns-in-Ok-clause-write_fault : goal.returns-in-Ok-clause-write_fault
 returns-in-Ok-clause-write_fault g c = λ fault. inl (record {
-    request = c.in-Ok-Some.request;
-    asked = (MatchOption-at_some (IsUsage (map string_bytes c.args.words.now)) (Asks (map string_bytes c.args.words.now)) c.in-Ok-Some.request c.in-Ok-Some.field-0-is c.in-Ok-Some.ensures);
-    bytes = c.in-Ok.lines;
-    traced = c.in-Ok.ensures.gives;
-    output = subst (λ (lines : List ℕ). Cuts g.O.Sink.written g.O.Sink.faults c.args.output.now c.deliver.new.output lines) c.as_slice.ensures.value (c.deliver.ensures.fault fault).0;
-    notes = (c.deliver.ensures.fault fault).1;
-  })
+  request = c.in-Ok-Some.request;
+  asked = (MatchOption-at_some (IsUsage (map string_bytes c.args.words.now)) (Asks (map string_bytes c.args.words.now)) c.in-Ok-Some.request c.in-Ok-Some.field-0-is c.in-Ok-Some.ensures);
+  bytes = c.in-Ok.lines;
+  traced = c.in-Ok.ensures.gives;
+  output = subst (λ (lines : List ℕ). Cuts g.O.Sink.written g.O.Sink.faults c.args.output.now c.deliver.new.output lines) c.as_slice.ensures.value (c.deliver.ensures.fault fault).0;
+  notes = (c.deliver.ensures.fault fault).1;
+})
 
 pub returns-in-Ok-clause-refusals : goal.returns-in-Ok-clause-refusals
 returns-in-Ok-clause-refusals g c = λ request words.

@@ -18,6 +18,7 @@ pub mod Pushes
 pub mod Refused
 pub mod RefusedText
 pub mod RuleFaults
+pub mod SourcePrograms
 pub mod StoresLane
 pub mod TreeFaults
 pub mod WordPlaces

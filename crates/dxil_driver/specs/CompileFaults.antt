@@ -89,6 +89,18 @@ HasFault text entry (Rule fault place) = (length text ≤ most_source) × HasTok
 HasFault text entry Unbuilt = (length text ≤ most_source) × HasTokensFault text entry Unbuilt
 HasFault text entry Memory = ⊥
 
+-- the text has tokens that spell a tree that is elaborated to this program, for an entry of this name
+pub record HasProgram (text entry : List ℕ) (program : plain_programs.Program) : Type 0 where
+  pub tokens : List Lexeme
+  pub end : Place
+  pub lexed : HasTokens text tokens end
+  pub spelled : SpellProgram tokens entry program
+
+-- the text has this fault in place of a program, for an entry of this name
+abbrev pub HasProgramFault : (text entry : List ℕ) → CompileFault → Type 0
+HasProgramFault text entry Unbuilt = ⊥
+HasProgramFault text entry fault = HasFault text entry fault
+
 -- the text has tokens that spell a tree that breaks this rule, and none before it, at a token that stands at this place
 abbrev pub BreaksRule : (text entry : List ℕ) → (rule : ℕ) → Place → Type 0
 BreaksRule text entry rule place = (at : ℕ) × HasTokensFault text entry (Rule (Broken rule at) place)

@@ -12,7 +12,7 @@ ghost use Rattle.hl_rules.specs.Elaboration.{Elaborates};
 ghost use Rattle.hl_types.specs.Elaborating.{AreSpelling};
 ghost use Rattle.hl_types.specs.declared.fault.RuleFault.{RuleFault};
 ghost use Rattle.dxil_driver.specs.Compiled.{HasFirstForm, Compiled, most_source};
-ghost use Rattle.dxil_driver.specs.CompileFaults.{AreTokens, GivesProgram, GivesTree, HasFault, HasTreeFault, HaveFault, HaveProgramFault, IsContainerOfProgram, IsContainerOfTokens, NamesRuleFault, NamesTreeFault, SpellForm, SpellProgram, TreeBreaks};
+ghost use Rattle.dxil_driver.specs.CompileFaults.{AreTokens, GivesProgram, GivesTree, HasFault, HasProgram, HasProgramFault, HasTreeFault, HaveFault, HaveProgramFault, IsContainerOfProgram, IsContainerOfTokens, NamesRuleFault, NamesTreeFault, SpellForm, SpellProgram, TreeBreaks};
 ghost use Rattle.dxil_driver.specs.FirstForm.{form_of};
 ghost use Rattle.dxil_driver.specs.SourceText.{SpellTree, place_at};
 ghost use Rattle.dxil_driver.specs.declared.compiler.CompileFault.{CompileFault};
@@ -193,6 +193,31 @@ fn compile_tokens<'a>(
 {
     let program = read_program(alloc, tokens, entry)?;
     compile_program(alloc, &program)
+}
+
+/// The typed program of a text, with the entry of this name.
+///
+/// # Errors
+/// Each fault exactly where the text has it in place of a program, and `Memory`, to which all others yield: those of
+/// `compile` without `Unbuilt`. So a program within the length gives `Ok` or `Memory`.
+pub fn program_of(alloc: Global, text: &[u8], entry: &[u8]) -> Result<Program, CompileFault>
+    // What is answered is the program of a text within the length.
+    ensures program { IfOk result (λ program. HasProgram text.now entry.now (plain_program program)) }
+    ensures within { OnOk result (length text.now ≤ most_source) }
+
+    // A program of such a text is answered, unless memory runs out.
+    ensures every_program { (program : plain_programs.Program) → length text.now ≤ most_source → HasProgram text.now entry.now program → GivesProgram result program }
+
+    // A fault that is answered is there, and one that is there is answered, unless memory runs out.
+    ensures fault { IfErr result (λ fault. (fault ≡ CompileFault.Memory) ⊎ HasProgramFault text.now entry.now fault) }
+    ensures every_fault { (fault : CompileFault) → HasProgramFault text.now entry.now fault
+        → IsErrOf result fault ⊎ IsErrOf result CompileFault.Memory }
+{
+    if text.len() > MOST_SOURCE {
+        return Err(CompileFault::TooLong);
+    }
+    let tokens = lex(alloc, text)?;
+    read_program(alloc, &tokens, entry)
 }
 
 /// The container of the text.

@@ -17,7 +17,7 @@ mod stores;
 pub use checker::{CheckFault, check};
 pub use command::Command;
 pub use commands::tool;
-pub use compiler::{CompileFault, compile};
+pub use compiler::{CompileFault, compile, program_of};
 pub use options::{Options, Target};
 pub use refusal::Refusal;
 pub use status::Status;

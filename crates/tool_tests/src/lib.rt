@@ -8,6 +8,8 @@ mod containers;
 #[cfg(test)]
 mod run;
 #[cfg(test)]
+mod traces;
+#[cfg(test)]
 mod typing;
 #[cfg(test)]
 mod verdicts;

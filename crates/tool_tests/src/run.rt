@@ -19,7 +19,7 @@ fn sink(rt: &HostRuntime, failing: &[u64]) -> Result<MemorySink, Fail> {
 }
 
 /// The words of a command line.
-fn owned(rt: &HostRuntime, words: &[&str]) -> Result<Vec<String>, Fail> {
+pub(crate) fn owned(rt: &HostRuntime, words: &[&str]) -> Result<Vec<String>, Fail> {
     let mut owned = Vec::new(rt.alloc());
     for word in words {
         owned.push(String::from_str(rt.alloc(), word)?)?;

@@ -1,0 +1,9 @@
+pub mod Asking
+pub mod Callees
+pub mod Doing
+pub mod Expressing
+pub mod Forms
+pub mod Loops
+pub mod Meeting
+pub mod Turns
+pub mod Weights

@@ -1,0 +1,5 @@
+pub mod HeldPlaces
+pub mod HeldWorks
+pub mod Marks
+pub mod Operands
+pub mod Runs

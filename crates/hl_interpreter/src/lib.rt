@@ -1,0 +1,29 @@
+//! A plain interpreter of one lane of a program. Its contract is the meaning of the program: what the lane asks, and how
+//! its run ends.
+//!
+//! It is slow and simple on purpose: each part of the meaning has one function here, which does what is said there.
+#![tactic(auto)]
+
+mod atomics;
+mod buffers;
+mod components;
+mod expressions;
+mod inputs;
+mod intrinsics;
+mod lane;
+mod layout;
+mod memory;
+mod operations;
+mod places;
+mod reading;
+mod run;
+mod slots;
+mod state;
+#[cfg(test)]
+mod tests;
+mod words;
+mod works;
+mod writing;
+
+pub use lane::{LaneRun, run_lane};
+pub use run::LanePlace;

@@ -1,0 +1,385 @@
+//! Where places stand, and what parts of values steps pick.
+
+ghost use Rattle.std.specs.Prelude.{◌≡◌, ◌≤◌, ℕ, List, IfOk, drop, map, option_and_then, option_map, slice_get, slice_index, take, unwrap_or};
+ghost use Rattle.hl_meaning.specs.Layout.{kinds_of, words_of};
+ghost use Rattle.hl_meaning.specs.Places.{element_type, root_type};
+ghost use Rattle.hl_meaning.specs.Trees.{PathParts, more_parts};
+ghost use Rattle.hl_meaning.specs.Types.{void_type};
+ghost use Rattle.hl_meaning.specs.Views.{plain_expr, plain_location, plain_member, plain_part, plain_parts, plain_resource, plain_root, plain_structs, plain_ty};
+ghost use Rattle.hl_source.specs.Offsets.{at_index, at_member, at_swizzle, element_of, further, holder_of, indexes_of_steps, literal_indexes, literal_word, member_of, picked_words, place_of, reached, slot_of, start_of};
+ghost use Rattle.hl_source.specs.Operations.{component_kind};
+ghost use Rattle.hl_interpreter.specs.HeldPlaces.{index_count, plain_holder, plain_place, plain_reached, plain_type};
+ghost use Rattle.hl_interpreter.specs.Runs.{context_of, run_context};
+
+use crate::components::{picked, word_at};
+use crate::layout::{kinds_of, words_of};
+use crate::operations::component_kind;
+use crate::run::{Context, Run};
+use base_core::{NoMemory, Sequence, Words};
+use hl_meaning::{Expr, Form, HlType, Kind, Location, Member, PathPart, Program, Root};
+use lane_core::Slot;
+use std::alloc::Global;
+
+/// The type of what steps lead to: one that is held, a component of a kind, or none.
+#[derive(Clone, Copy)]
+pub(crate) enum ReachedType<'a> {
+    Held(&'a HlType),
+    Component(Kind),
+    Nothing,
+}
+
+/// Where steps lead: the type of what stands there, the word that it begins at, and, behind a swizzle of more than one
+/// letter, its letters. The type and the word are then those of the vector.
+#[derive(Clone, Copy)]
+pub(crate) struct Reached<'a> {
+    pub ty: ReachedType<'a>,
+    pub offset: u32,
+    pub letters: &'a [u8],
+}
+
+/// What a place stands in.
+#[derive(Clone, Copy)]
+pub(crate) enum Holder {
+    Variable(u32),
+    Constant(u32),
+    Shared(u32),
+    Element { slot: Slot, index: u32 },
+}
+
+/// A place: what it stands in, and where in it.
+#[derive(Clone, Copy)]
+pub(crate) struct Place<'a> {
+    pub holder: Holder,
+    pub at: Reached<'a>,
+}
+
+/// The start of something of a type.
+fn start_of<'a>(ty: ReachedType<'a>) -> Reached<'a>
+    ensures { plain_reached result ≡ start_of (plain_type ty.entry) }
+{
+    Reached {
+        ty,
+        offset: 0,
+        letters: &[],
+    }
+}
+
+/// Something of a type, so many words behind a place.
+fn further<'a>(from: Reached<'a>, ty: ReachedType<'a>, words: u32) -> Reached<'a>
+    ensures { plain_reached result ≡ further (plain_reached from.entry) (plain_type ty.entry) words }
+{
+    Reached {
+        ty,
+        offset: from.offset.wrapping_add(words),
+        letters: &[],
+    }
+}
+
+/// The words of what was reached.
+///
+/// # Errors
+/// `NoMemory` where they are too many to be held, as in each function below.
+pub(crate) fn reached_words(program: &Program, ty: ReachedType) -> Result<u32, NoMemory>
+    ensures { IfOk result (λ words. words ≡ words_of (plain_structs program.now.structs) (plain_type ty.entry)) }
+{
+    match ty {
+        ReachedType::Held(ty) => words_of(program, ty),
+        ReachedType::Component(_) => Ok(1),
+        ReachedType::Nothing => Ok(0),
+    }
+}
+
+/// The kinds of the words of what was reached.
+pub(crate) fn reached_kinds(
+    alloc: Global,
+    program: &Program,
+    ty: ReachedType,
+) -> Result<Sequence<Kind>, NoMemory>
+    ensures { IfOk result (λ kinds. kinds ≡ kinds_of (plain_structs program.now.structs) (plain_type ty.entry)) }
+{
+    match ty {
+        ReachedType::Held(ty) => kinds_of(alloc, program, ty),
+        ReachedType::Component(kind) => {
+            let mut kinds = Sequence::new(alloc);
+            kinds.push(kind)?;
+            Ok(kinds)
+        }
+        ReachedType::Nothing => Ok(Sequence::new(alloc)),
+    }
+}
+
+/// The kind of the components of what was reached.
+fn reached_kind(ty: ReachedType) -> Kind
+    ensures { result ≡ component_kind (plain_type ty.entry) }
+{
+    match ty {
+        ReachedType::Held(ty) => component_kind(ty),
+        ReachedType::Component(kind) => kind,
+        ReachedType::Nothing => Kind::Uint,
+    }
+}
+
+/// The member of a number of a struct.
+fn member_of<'a>(program: &'a Program, ty: ReachedType, number: u32) -> Option<&'a Member>
+    ensures { option_map (λ m. plain_member m.now) result ≡ member_of (plain_structs program.now.structs) (plain_type ty.entry) number }
+{
+    match ty {
+        ReachedType::Held(HlType::Struct(structure)) => {
+            match program.structs.get(*structure as usize) {
+                Some(structure) => structure.members.get(number as usize),
+                None => None,
+            }
+        }
+        _ => None,
+    }
+}
+
+/// A member stands at its offset in its struct.
+fn at_member<'a>(program: &'a Program, from: Reached<'a>, number: u32) -> Reached<'a>
+    ensures { plain_reached result ≡ at_member (plain_reached from.entry) (member_of (plain_structs program.now.structs) (plain_type from.entry.ty) number) }
+{
+    match member_of(program, from.ty, number) {
+        Some(member) => further(from, ReachedType::Held(&member.ty), member.offset),
+        None => from,
+    }
+}
+
+/// The type of the elements of an array, or of the components of a vector.
+fn element_of<'a>(ty: ReachedType<'a>) -> ReachedType<'a>
+    ensures { plain_type result ≡ element_of (plain_type ty.entry) }
+{
+    match ty {
+        ReachedType::Held(HlType::Array(element, _)) => ReachedType::Held(element.get()),
+        _ => ReachedType::Component(reached_kind(ty)),
+    }
+}
+
+/// An element stands at its index times the words of an element.
+fn at_index<'a>(
+    program: &'a Program,
+    from: Reached<'a>,
+    index: u32,
+) -> Result<Reached<'a>, NoMemory>
+    ensures { IfOk result (λ there. plain_reached there ≡ at_index (plain_structs program.now.structs) (plain_reached from.entry) index) }
+{
+    let element = element_of(from.ty);
+    let words = reached_words(program, element)?;
+    Ok(further(from, element, index.wrapping_mul(words)))
+}
+
+/// A swizzle of one letter leads to the component of the letter; a longer one stays at its vector.
+fn at_swizzle<'a>(from: Reached<'a>, letters: &'a [u8]) -> Reached<'a>
+    ensures { plain_reached result ≡ at_swizzle (plain_reached from.entry) letters.now }
+{
+    match letters {
+        [letter] => further(
+            from,
+            ReachedType::Component(reached_kind(from.ty)),
+            u32::from(*letter),
+        ),
+        _ => Reached {
+            ty: from.ty,
+            offset: from.offset,
+            letters,
+        },
+    }
+}
+
+/// Where one step leads that isn't an index, or is one of this word.
+fn stepped<'a>(
+    program: &'a Program,
+    from: Reached<'a>,
+    part: &'a PathPart,
+    index: u32,
+) -> Result<Reached<'a>, NoMemory>
+    ensures { IfOk result (λ there. (rest : PathParts) (indexes : List ℕ) → slice_index indexes 0 ≡ index →
+        reached (plain_structs program.now.structs) (plain_reached from.entry) (more_parts (plain_part part.now) rest) indexes
+        ≡ reached (plain_structs program.now.structs) (plain_reached there) rest (drop (index_count (plain_part part.now)) indexes)) }
+{
+    match part {
+        PathPart::Member(number) => Ok(at_member(program, from, *number)),
+        PathPart::Index(_) => at_index(program, from, index),
+        PathPart::Swizzle(letters) => Ok(at_swizzle(from, letters.as_slice())),
+    }
+}
+
+/// How many indexes a step takes.
+fn index_count(part: &PathPart) -> usize
+    ensures value { result ≡ index_count (plain_part part.now) }
+    ensures limit { result ≤ 1 }
+{
+    match part {
+        PathPart::Index(_) => 1,
+        PathPart::Member(_) | PathPart::Swizzle(_) => 0,
+    }
+}
+
+/// Where steps lead to, with the words of the indexes in them.
+fn steps_to<'a>(
+    program: &'a Program,
+    start: ReachedType<'a>,
+    parts: &'a [PathPart],
+    indexes: &[u32],
+) -> Result<Reached<'a>, NoMemory>
+    ensures { IfOk result (λ there. plain_reached there ≡ reached (plain_structs program.now.structs) (start_of (plain_type start.entry)) (plain_parts parts.now) indexes.now) }
+{
+    let mut from = start_of(start);
+    let mut next = 0;
+    for part in parts {
+        from = stepped(program, from, part, word_at(indexes, next))?;
+        next += index_count(part);
+    }
+    Ok(from)
+}
+
+/// The type of a root.
+fn root_type<'a>(context: &Context<'a>, root: &Root) -> ReachedType<'a>
+    ensures { plain_type result ≡ unwrap_or (root_type (context_of context.now).scope (plain_root root.now)) void_type }
+{
+    match root {
+        Root::Variable(number) => match context.function.variables.get(*number as usize) {
+            Some(variable) => ReachedType::Held(&variable.ty),
+            None => ReachedType::Nothing,
+        },
+        Root::Constant(number) => match context.run.program.constants.get(*number as usize) {
+            Some(constant) => ReachedType::Held(&constant.variable.ty),
+            None => ReachedType::Nothing,
+        },
+        Root::Shared(number) => match context.run.program.shared.get(*number as usize) {
+            Some(variable) => ReachedType::Held(&variable.ty),
+            None => ReachedType::Nothing,
+        },
+        Root::Element { resource, .. } => element_type(context.run.program, *resource),
+    }
+}
+
+/// The type of the elements of a structured buffer.
+fn element_type<'a>(program: &'a Program, resource: u32) -> ReachedType<'a>
+    ensures { plain_type result ≡ unwrap_or (option_and_then element_type (slice_get (map plain_resource program.now.resources) resource)) void_type }
+{
+    match program.resources.get(resource as usize) {
+        Some(resource) => {
+            if resource.raw {
+                ReachedType::Nothing
+            } else {
+                ReachedType::Held(&resource.element)
+            }
+        }
+        None => ReachedType::Nothing,
+    }
+}
+
+/// The slot of a buffer.
+pub(crate) fn slot_of(run: &Run, resource: u32) -> Slot
+    ensures { result ≡ slot_of (run_context run.now) resource }
+{
+    match run.slots.get(resource as usize) {
+        Some(slot) => *slot,
+        None => Slot {
+            class: 0,
+            space: 0,
+            register: 0,
+        },
+    }
+}
+
+/// What a root is, with the words of the indexes of its place.
+fn holder_of(run: &Run, root: &Root, indexes: &[u32]) -> Holder
+    ensures { plain_holder result ≡ holder_of (run_context run.now) (plain_root root.now) indexes.now }
+{
+    match root {
+        Root::Variable(number) => Holder::Variable(*number),
+        Root::Constant(number) => Holder::Constant(*number),
+        Root::Shared(number) => Holder::Shared(*number),
+        Root::Element { resource, .. } => Holder::Element {
+            slot: slot_of(run, *resource),
+            index: word_at(indexes, 0),
+        },
+    }
+}
+
+/// The indexes of the steps: all but that of an element.
+fn indexes_of_steps<'a>(root: &Root, indexes: &'a [u32]) -> &'a [u32]
+    ensures { result.now ≡ indexes_of_steps (plain_root root.now) indexes.now }
+{
+    match root {
+        Root::Element { .. } => {
+            if indexes.is_empty() {
+                indexes
+            } else {
+                &indexes[1..]
+            }
+        }
+        Root::Variable(_) | Root::Constant(_) | Root::Shared(_) => indexes,
+    }
+}
+
+/// The place of a location, with the words of its indexes.
+pub(crate) fn place_of<'a>(
+    context: &Context<'a>,
+    location: &'a Location,
+    indexes: &[u32],
+) -> Result<Place<'a>, NoMemory>
+    ensures { IfOk result (λ place. plain_place place ≡ place_of (context_of context.now) (plain_location location.now) indexes.now) }
+{
+    let steps = indexes_of_steps(&location.root, indexes);
+    let start = root_type(context, &location.root);
+    let at = steps_to(
+        context.run.program,
+        start,
+        location.parts.as_slice(),
+        steps,
+    )?;
+    Ok(Place {
+        holder: holder_of(context.run, &location.root, indexes),
+        at,
+    })
+}
+
+/// The word of a literal, and 0 for any other expression.
+fn literal_word(expr: &Expr) -> u32
+    ensures { result ≡ literal_word (plain_expr expr.now) }
+{
+    match &expr.form {
+        Form::Literal(word) => *word,
+        _ => 0,
+    }
+}
+
+/// The words of indexes that are literals.
+fn literal_indexes(alloc: Global, parts: &[PathPart]) -> Result<Words, NoMemory>
+    ensures { IfOk result (λ indexes. indexes ≡ literal_indexes (plain_parts parts.now)) }
+{
+    let mut indexes = Words::new(alloc);
+    for part in parts {
+        if let PathPart::Index(index) = part {
+            indexes.push(literal_word(index.get()))?;
+        }
+    }
+    Ok(indexes)
+}
+
+/// The words of what was reached among the words of a value.
+fn words_at<'a>(words: &'a [u32], offset: u32, count: u32) -> &'a [u32]
+    ensures { result.now ≡ take count (drop offset words.now) }
+{
+    let first = (offset as usize).min(words.len());
+    let rest = &words[first..];
+    &rest[..(count as usize).min(rest.len())]
+}
+
+/// What steps pick of the words of a value. Their indexes are literals.
+pub(crate) fn picked_words(
+    run: &Run,
+    ty: &HlType,
+    parts: &[PathPart],
+    words: &[u32],
+) -> Result<Words, NoMemory>
+    ensures { IfOk result (λ found. found ≡ picked_words (plain_structs run.now.program.now.structs) (plain_ty ty.now) (plain_parts parts.now) words.now) }
+{
+    let indexes = literal_indexes(run.alloc, parts)?;
+    let start = ReachedType::Held(ty);
+    let at = steps_to(run.program, start, parts, indexes.as_slice())?;
+    let count = reached_words(run.program, at.ty)?;
+    picked(run.alloc, at.letters, words_at(words, at.offset, count))
+}

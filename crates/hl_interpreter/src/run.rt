@@ -1,0 +1,76 @@
+//! What stays the same while a lane runs, and while one of its functions does.
+
+use base_core::NoMemory;
+use hl_meaning::{FunctionDef, Program};
+use lane_core::{Asked, LaneFault, Reply, Slot};
+use std::alloc::{AllocFailed, Global};
+
+/// Where a lane is: its group, its place in the group, its index in its wave, and the size of a wave.
+#[derive(Clone, Copy, Debug, PartialEq, Eq)]
+pub struct LanePlace {
+    pub group: [u32; 3],
+    pub thread: [u32; 3],
+    pub lane_index: u32,
+    pub wave_size: u32,
+}
+
+/// What stays the same while a lane runs: the program, the slots of its buffers, the lane, the replies, and how many
+/// turns each loop may take.
+#[derive(Clone, Copy)]
+pub(crate) struct Run<'a> {
+    pub alloc: Global,
+    pub program: &'a Program,
+    pub slots: &'a [Slot],
+    pub lane: &'a LanePlace,
+    pub replies: &'a [Reply],
+    pub turns: u64,
+}
+
+/// What stays the same while a function runs: the functions before it, which it can call, and itself.
+#[derive(Clone, Copy)]
+pub(crate) struct Context<'a> {
+    pub run: &'a Run<'a>,
+    pub callees: &'a [FunctionDef],
+    pub function: &'a FunctionDef,
+}
+
+/// Why a run goes no further: memory was refused, or the lane stands there.
+#[derive(Clone, Copy, Debug, PartialEq, Eq)]
+pub(crate) enum Stop {
+    Memory,
+    Ends(Asked),
+}
+
+impl From<NoMemory> for Stop {
+    ghost use Rattle.std.specs.Prelude.{◌≡◌};
+    ghost use Rattle.hl_interpreter.specs.declared.run.Stop.TheVariants.{Memory};
+
+    ghost from_gives = { λ _ stop. stop ≡ Memory };
+
+    fn from(_refused: NoMemory) -> Stop {
+        Stop::Memory
+    }
+}
+
+impl<T: Drop> From<AllocFailed<T>> for Stop {
+    ghost use Rattle.std.specs.Prelude.{◌≡◌};
+    ghost use Rattle.hl_interpreter.specs.declared.run.Stop.TheVariants.{Memory};
+
+    ghost from_gives = { λ _ stop. stop ≡ Memory };
+
+    fn from(_refused: AllocFailed<T>) -> Stop {
+        Stop::Memory
+    }
+}
+
+impl From<LaneFault> for Stop {
+    ghost use Rattle.std.specs.Prelude.{◌≡◌};
+    ghost use Rattle.lane_core.specs.declared.event.Asked.TheVariants.{Fault};
+    ghost use Rattle.hl_interpreter.specs.declared.run.Stop.TheVariants.{Ends};
+
+    ghost from_gives = { λ fault stop. stop ≡ Ends (Fault fault) };
+
+    fn from(fault: LaneFault) -> Stop {
+        Stop::Ends(Asked::Fault(fault))
+    }
+}

@@ -1,0 +1,6 @@
+pub mod Asked
+pub mod Eaches
+pub mod LineLists
+pub mod Numbers
+pub mod Replies
+pub mod Told

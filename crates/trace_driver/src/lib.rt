@@ -1,0 +1,10 @@
+//! What one lane of a source asks, as lines of text.
+#![tactic(auto)]
+
+mod lines;
+mod request;
+mod source;
+mod tool;
+
+pub use request::Request;
+pub use tool::trace;

@@ -1,0 +1,146 @@
+//! The tool: the words say which lane is asked for, the input has the source, and the output gets the lines.
+
+ghost use Rattle.std.specs.Prelude.{◌≡◌, ◌≢◌, ◌≤◌, ◌⊎◌, length, map, string_bytes, IfOk, IfErr, IfSome, OnOk};
+ghost use Rattle.std.specs.Io.KnownBytes.{Appends, Keeps};
+ghost use Rattle.base_core.specs.Counts.{HasRisen};
+ghost use Rattle.dxil_driver.specs.Compiled.{most_source};
+ghost use Rattle.dxil_driver.specs.Refusal.{write_fault_line};
+ghost use Rattle.dxil_driver.specs.Tool.{Cuts, IsDoneOrMemory, IsStop, Tells, WritesOrCuts};
+ghost use Rattle.dxil_driver.specs.declared.refusal.Refusal.{Refusal};
+ghost use Rattle.trace_driver.specs.Requests.{Asks, IsUsage};
+ghost use Rattle.trace_driver.specs.Traces.{FailsNotes, FailsOutput, IsDone, IsRefusedText, IsTold, IsTraced, StandsFor, TellsOf, TracesAll, refusal_line};
+ghost use Rattle.trace_driver.specs.declared.request.Request.{Request};
+
+use crate::request::Request;
+use crate::source::source_lines;
+use base_core::{Bytes, Sink, Source, read_whole, write_whole};
+use dxil_driver::{Refusal, Status};
+use std::alloc::{AllocError, Global};
+
+/// The greatest length of a source in bytes.
+const MOST_SOURCE: usize = 1048576;
+
+/// What is printed where memory is refused.
+fn out_of_memory() -> &'static [u8]
+    ensures { result.now ≡ refusal_line Refusal.Memory }
+{
+    b"error: out of memory\n"
+}
+
+/// What is printed where the output fails.
+fn write_fault() -> &'static [u8]
+    ensures { result.now ≡ write_fault_line }
+{
+    b"error: write fault\n"
+}
+
+/// The line of a refusal: the one of `compile`, but for words that ask for no lane.
+fn refusal_line(alloc: Global, refusal: Refusal) -> Result<String, AllocError>
+    ensures { IfOk result (λ line. string_bytes line ≡ refusal_line refusal) }
+{
+    match refusal {
+        Refusal::Usage => format!(in alloc;
+            "usage: source_trace ENTRY GX GY GZ X Y Z LANE WAVE TURNS REPLY..\n"
+        ),
+        _ => refusal.line(alloc),
+    }
+}
+
+/// Writes the line to the notes, and answers the status where it was written whole.
+fn tell<N: Sink>(notes: &mut N, status: Status, line: &[u8]) -> Status
+    ensures told { Tells N.written N.faults notes.old notes.new status line.now result }
+    ensures lasting { N.faults notes.old ≤ N.faults notes.new }
+{
+    match write_whole(notes, line) {
+        Ok(()) => status,
+        Err(_) => Status::WriteFault,
+    }
+}
+
+/// Writes the lines to the output, and where that fails the line of it to the notes.
+fn deliver<O: Sink, N: Sink>(output: &mut O, notes: &mut N, lines: &[u8]) -> Status
+    ensures ends { (result ≡ Status.Done) ⊎ (result ≡ Status.WriteFault) }
+    ensures done { result ≡ Status.Done → Appends (O.written output.old) (O.written output.new) lines.now
+        × Keeps (N.written notes.old) (N.written notes.new) }
+    ensures fault { result ≡ Status.WriteFault → Cuts O.written O.faults output.old output.new lines.now
+        × WritesOrCuts N.written N.faults notes.old notes.new write_fault_line }
+{
+    match write_whole(output, lines) {
+        Ok(()) => Status::Done,
+        Err(_) => tell(notes, Status::WriteFault, write_fault()),
+    }
+}
+
+/// Writes the line of a refusal to the notes, or that of want of memory where the line can't be made.
+fn refuse<N: Sink>(alloc: Global, notes: &mut N, refusal: Refusal) -> Status
+    ensures told { TellsOf N.written N.faults notes.old notes.new refusal result }
+    ensures lasting { N.faults notes.old ≤ N.faults notes.new }
+{
+    match refusal_line(alloc, refusal) {
+        Ok(line) => tell(notes, refusal.status(), line.as_bytes()),
+        Err(_) => tell(notes, Status::Memory, out_of_memory()),
+    }
+}
+
+/// The lines of the lane that is asked for, of the whole input.
+fn run<I: Source>(alloc: Global, request: &Request, input: &mut I) -> Result<Bytes, Refusal>
+    ensures gives { IfOk result (TracesAll I.left I.taken input.old input.new request.now) }
+    ensures cause { IfErr result (StandsFor I.left I.taken input.old input.new I.faults request.now) }
+    ensures accepted { OnOk result (IfSome (I.left input.old) (λ all. ¬ IsRefusedText request.now all)) }
+    ensures complete { ¬ HasRisen (I.faults input.old) (I.faults input.new)
+        → IfSome (I.left input.old) (λ all. length all ≤ most_source → IsTraced request.now all → IfErr result (λ refusal. refusal ≡ Refusal.Memory)) }
+{
+    let text = read_whole(alloc, input, MOST_SOURCE)?;
+    let lines = source_lines(alloc, text.as_slice(), request)?;
+    Ok(lines)
+}
+
+/// Runs the tool.
+///
+/// The words ask for a lane of the source that the input gives. The output gets the lines of its run. Each other end
+/// writes nothing to the output and one line to the notes, but for an output that fails: it has a front of the lines
+/// then. `WriteFault` says that the output failed, or the notes as the line of another end was written to them.
+pub fn trace<I: Source, O: Sink, N: Sink>(
+    alloc: Global,
+    words: &[String],
+    input: &mut I,
+    output: &mut O,
+    notes: &mut N,
+) -> Status
+    // The output has the lines for all that was left, and the notes have nothing.
+    ensures done { result ≡ Status.Done → IsDone I.left I.taken I.faults O.written N.written
+        (map string_bytes words.now) input.old input.new output.old output.new notes.old notes.new }
+
+    // One whole line was told, that of a refusal that stands and has this status, and nothing was written to the output.
+    ensures told { result ≢ Status.Done → result ≢ Status.WriteFault →
+        IsTold I.left I.taken I.faults O.written N.written (map string_bytes words.now)
+        input.old input.new output.old output.new notes.old notes.new result }
+
+    // The output failed in the lines, or the notes in the line of a refusal that stands.
+    ensures write_fault { result ≡ Status.WriteFault →
+        FailsOutput I.left I.taken I.faults O.written N.written (map string_bytes words.now)
+        input.old input.new output.old output.new notes.old notes.new O.faults N.faults
+        ⊎ FailsNotes I.left I.taken I.faults O.written N.written (map string_bytes words.now)
+        input.old input.new output.old output.new notes.old notes.new N.faults }
+
+    // Where a refusal stands, no other end comes.
+    ensures other_words { IsUsage (map string_bytes words.now)
+        → (result ≡ Status.Usage) ⊎ ((result ≡ Status.Memory) ⊎ (result ≡ Status.WriteFault)) }
+    ensures refusals { (request : Request) → Asks (map string_bytes words.now) request
+        → IfSome (I.left input.old) (λ all. IsRefusedText request all → IsStop result) }
+
+    // A source with a program has its lines written, unless memory is refused.
+    ensures complete { (request : Request) → Asks (map string_bytes words.now) request
+        → ¬ HasRisen (I.faults input.old) (I.faults input.new) → ¬ HasRisen (O.faults output.old) (O.faults output.new)
+        → IfSome (I.left input.old) (λ all. length all ≤ most_source → IsTraced request all
+        → IsDoneOrMemory result (HasRisen (N.faults notes.old) (N.faults notes.new))) }
+{
+    match Request::from_words(alloc, words) {
+        Err(_refused) => refuse(alloc, notes, Refusal::Memory),
+        Ok(None) => refuse(alloc, notes, Refusal::Usage),
+        Ok(Some(request)) => match run(alloc, &request, input) {
+            Ok(lines) => deliver(output, notes, lines.as_slice()),
+            Err(refusal) => refuse(alloc, notes, refusal),
+        },
+    }
+}

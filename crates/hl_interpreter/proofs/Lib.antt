@@ -1,5 +1,6 @@
 pub mod Asking
 pub mod Callees
+pub mod Calls
 pub mod Doing
 pub mod Expressing
 pub mod Forms

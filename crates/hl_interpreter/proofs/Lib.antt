@@ -1,9 +1,13 @@
 pub mod Asking
 pub mod Callees
 pub mod Doing
+pub mod Exits
 pub mod Expressing
 pub mod Forms
+pub mod HeldTypes
 pub mod Loops
 pub mod Meeting
+pub mod Registers
 pub mod Turns
+pub mod Values
 pub mod Weights

@@ -73,7 +73,7 @@ module _ {A : Type 0} (part : A → State → Progress (List ℕ)) (xs : List A)
 mapped-next : {A B : Type 0} (f : A → B) (xs : List A) (i : ℕ) (x : A) → drop i xs ≡ x ∷ drop (i + 1) xs → drop i (map f xs) ≡ f x ∷ drop (i + 1) (map f xs)
 mapped-next f xs i x e = drop-map f i xs ∙ (ap (map f) e ∙ ap (λ l. f x ∷ l) (sym (drop-map f (i + 1) xs)))
 
-counted-next : (count i : ℕ) → i < count → drop i (range_with_len 0 count) ≡ i ∷ drop (i + 1) (range_with_len 0 count)
+pub counted-next : (count i : ℕ) → i < count → drop i (range_with_len 0 count) ≡ i ∷ drop (i + 1) (range_with_len 0 count)
 counted-next count i within = range-next 0 i count within ∙ ap (λ k. k ∷ drop (i + 1) (range_with_len 0 count)) (omega arith)
 
 -- the next word of a place

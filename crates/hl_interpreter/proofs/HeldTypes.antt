@@ -1,10 +1,11 @@
 -- Types that are held, by their forms.
-use Rattle.std.proofs.Common.{◌≡◌, ◌∙◌, refl, sym, ap, ℕ, zero, suc, ◌+◌, false, List, ◌++◌, append-nil, append_assoc, suc-add}
+use Rattle.std.proofs.Common.{◌≡◌, ◌∙◌, refl, sym, ap, ℕ, zero, suc, ◌+◌, false, List, [], ◌∷◌, ◌++◌, append-nil, append_assoc, suc-add}
 use Rattle.hl_meaning.specs.declared.ty.Kind.{Kind}
 use Rattle.hl_meaning.specs.declared.ty.Kind.TheVariants.{Uint}
 use Rattle.hl_meaning.specs.declared.ty.HlType.{HlType}
 use Rattle.hl_meaning.specs.declared.ty.HlType.TheVariants.{Array, Scalar, Struct, Vector}
-use Rattle.hl_meaning.specs.Layout.{repeated}
+use Rattle.hl_meaning.specs.Layout.{kinds_of, repeated}
+use Rattle.hl_meaning.specs.Programs.{StructDef}
 use Rattle.hl_meaning.specs.Types.{Ty, array_type, component_count, is_scalar, scalar_type, struct_type, vector_type, void_type}
 use Rattle.hl_meaning.specs.Views.{plain_ty}
 use Rattle.hl_meaning.proofs.Plain.{plain_ty-Array, plain_ty-Scalar, plain_ty-Struct, plain_ty-Vector, plain_ty-Void}
@@ -40,3 +41,11 @@ pub repeated-next : (count : ℕ) (kinds : List Kind) → repeated count kinds +
 repeated-next zero kinds = sym (append-nil kinds)
 repeated-next (suc count) kinds =
     append_assoc kinds (repeated count kinds) kinds ∙ (ap (λ l. kinds ++ l) (repeated-next count kinds) ∙ ap (λ k. repeated k kinds) (sym (suc-add count 1)))
+
+pub kinds-scalar : (structs : List StructDef) (kind : Kind) → kinds_of structs (scalar_type kind) ≡ kind ∷ []
+unfolding kinds_of
+kinds-scalar structs kind = refl
+
+pub kinds-void : (structs : List StructDef) → kinds_of structs void_type ≡ []
+unfolding kinds_of
+kinds-void structs = refl

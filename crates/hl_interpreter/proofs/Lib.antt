@@ -1,9 +1,12 @@
 pub mod Asking
 pub mod Callees
+pub mod Cells
 pub mod Doing
 pub mod Exits
 pub mod Expressing
 pub mod Forms
+pub mod HeldNames
+pub mod HeldPaths
 pub mod HeldTypes
 pub mod Loops
 pub mod Meeting

@@ -10,7 +10,7 @@ use Rattle.hl_interpreter.specs.declared.run.Stop.{Stop}
 use Rattle.hl_interpreter.specs.declared.run.Stop.TheVariants.{Ends, Memory}
 use Rattle.hl_interpreter.specs.Runs.{Meets}
 use Rattle.hl_interpreter.proofs.Meeting.{behind, behind-behind, behind-end, behind-first, behind-first-stops, done-first, done-first-stops, same}
-use Rattle.hl_interpreter.proofs.Turns.{length-range, range-next}
+use Rattle.hl_interpreter.proofs.Turns.{drop-next, length-range, range-next}
 
 -- ---- parts whose values are gathered
 
@@ -118,3 +118,12 @@ length-zipped [] [] e = refl
 length-zipped [] (y ∷ ys) e = absurd (omega arith)
 length-zipped (x ∷ xs) [] e = absurd (omega arith)
 length-zipped (x ∷ xs) (y ∷ ys) e = ap suc (length-zipped xs ys (omega arith))
+
+-- the next word that is written, with its offset
+pub written-next : (offset : ℕ) (words : List ℕ) (i word : ℕ) → i < length words → word ≡ get_or words i word
+    → drop i (zip (word_offsets offset (length words)) words) ≡ (wrapping_add offset i, word) ∷ drop (i + 1) (zip (word_offsets offset (length words)) words)
+written-next offset words i word within is =
+    zipped-next (word_offsets offset (length words)) words i (wrapping_add offset i) word (offset-next offset (length words) i within) (drop-next words i word within is)
+
+pub length-written : (offset : ℕ) (words : List ℕ) → length (zip (word_offsets offset (length words)) words) ≡ length words
+length-written offset words = length-zipped (word_offsets offset (length words)) words (length-offsets offset (length words))

@@ -1,6 +1,6 @@
 -- Values by component, as loops make them.
-use Rattle.std.proofs.Common.{◌≡◌, ◌∙◌, refl, sym, ap, subst, ℕ, ◌+◌, ◌<◌, ◌≤◌, min, if◌then◌else◌, List, [], ◌∷◌, ◌++◌, append-nil, append_assoc, drop, get_or, length, map, replicate, slice_index, take, Result, Ok, Err, arith}
-use Rattle.std.proofs.lemmas.Bool.{cases_lt}
+use Rattle.std.proofs.Common.{◌≡◌, ◌⊎◌, inl, inr, ◌∙◌, refl, sym, ap, subst, ℕ, ◌+◌, ◌<◌, ◌≤◌, ◌==◌, false, min, if◌then◌else◌, List, [], ◌∷◌, ◌++◌, append-nil, append_assoc, drop, get_or, length, map, replicate, slice_index, take, Result, Ok, Err, arith}
+use Rattle.std.proofs.lemmas.Bool.{cases_lt, false≢true}
 use Rattle.lane_core.specs.declared.event.LaneFault.{LaneFault}
 use Rattle.hl_meaning.specs.declared.ty.Kind.{Kind}
 use Rattle.hl_meaning.specs.declared.ty.HlType.{HlType}
@@ -112,6 +112,6 @@ all-done f xs ys whole i acc past e =
 pub picked-none : (letters words : List ℕ) → letters ≡ [] → picked letters words ≡ words
 picked-none letters words is = ap (λ l. picked l words) is
 
-pub picked-some : (letters words : List ℕ) → (letters ≡ [] → ⊥) → picked letters words ≡ map (slice_index words) letters
-picked-some [] words some = absurd (some refl)
+pub picked-some : (letters words : List ℕ) → false ≡ (length letters == 0) → picked letters words ≡ map (slice_index words) letters
+picked-some [] words some = absurd (false≢true some)
 picked-some (letter ∷ letters) words some = refl

@@ -15,4 +15,6 @@ loop-letter-preserved c =
     c.word_at.ensures c.in_ok-push.ensures.ok c.loop-letter.invariant
 
 pub returns : goal.returns
-returns c = ?
+returns c =
+    map-end (slice_index c.args.words.now) c.args.letters.now c.loop-letter.letter-index c.loop-letter.result _ c.loop-letter-test.false c.loop-letter.invariant ∙
+    sym (picked-some c.args.letters.now c.args.words.now c.if-is_empty.ensures)

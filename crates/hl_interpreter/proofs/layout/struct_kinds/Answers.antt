@@ -14,7 +14,7 @@ loop-structure-preserved c =
     let rest = plain_structs (drop (i + 1) structs) in
     ap (λ l. struct_kinds_after l rest)
     (c.in_ok-push.ensures.ok ∙ ap (λ k. all ++ k ∷ [])
-    (c.in_ok-kinds.ensures ∙ (ap (λ l. member_kinds l (map plain_member c.as_slice-2.result.now)) c.as_slice.ensures.value ∙ ap (λ l. member_kinds all (map plain_member l)) c.as_slice-2.ensures.value))) ∙
+    (c.in_ok-kinds.ensures ∙ (ap (λ l. member_kinds l (map plain_member c.as_slice-in-loop-structure.result.now)) c.as_slice.ensures.value ∙ ap (λ l. member_kinds all (map plain_member l)) c.as_slice-in-loop-structure.ensures.value))) ∙
     (ap (λ l. struct_kinds_after all (plain_structs l)) (sym (drop-next structs i d c.loop-structure-test.true c.structure-item.is)) ∙ c.loop-structure.invariant)
 
 pub returns : goal.returns

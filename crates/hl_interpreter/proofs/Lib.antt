@@ -5,6 +5,7 @@ pub mod Doing
 pub mod Exits
 pub mod Expressing
 pub mod Forms
+pub mod Fours
 pub mod HeldNames
 pub mod HeldPaths
 pub mod HeldTypes
@@ -14,3 +15,4 @@ pub mod Registers
 pub mod Turns
 pub mod Values
 pub mod Weights
+pub mod WorkForms

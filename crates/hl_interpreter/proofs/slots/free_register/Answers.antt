@@ -8,4 +8,4 @@ pub returns : goal.returns
 returns c =
     c.least_free.ensures ∙ ap least_free
     (c.as_slice.ensures.value ∙ (c.in_ok-add_taken.ensures ∙ ap (λ l. l ++ filter_map (slot_register c.args.class) c.args.earlier.now)
-    (c.in_ok-add_given.ensures ∙ ap (λ l. l ++ filter_map (given_register c.args.class) (map plain_resource c.args.all.now)) c.new.ensures)))
+    (c.in_ok-add_given.ensures ∙ ap (λ l. l ++ filter_map (given_register c.args.class) (map plain_resource c.args.all.now)) c.new-taken.ensures)))

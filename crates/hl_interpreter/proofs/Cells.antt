@@ -1,11 +1,14 @@
 -- Words that are there or not, and words of variables that are written.
-use Rattle.std.proofs.Common.{◌≡◌, ◌∙◌, refl, sym, ap, subst, ℕ, zero, suc, ◌<◌, ◌≤◌, if◌then◌else◌, List, [], ◌∷◌, get_or, length, slice_get, slice_set, Result, Ok, Err, arith}
-use Rattle.std.proofs.lemmas.Bool.{le-ltb, lt-ltb}
+use Rattle.std.proofs.Common.{◌≡◌, ◌∙◌, refl, sym, ap, subst, ℕ, zero, suc, ◌<◌, ◌≤◌, ◌==◌, true, false, if◌then◌else◌, List, [], ◌∷◌, get_or, length, slice_get, slice_set, Result, Ok, Err, arith}
+use Rattle.std.proofs.lemmas.Bool.{false≢true, le-ltb, lt-ltb, true≢false}
+use Rattle.std.specs.List.{zip}
+use Rattle.lane_core.specs.Words.{wrapping_add}
+use Rattle.hl_source.specs.Offsets.{Holder}
 use Rattle.std.proofs.lemmas.List.{get_or-set_same, length-set, set-get_or, set-set}
 use Rattle.std.proofs.lemmas.Option.{unwrap_or-slice_get}
 use Rattle.lane_core.specs.declared.event.LaneFault.TheVariants.{OutOfBounds}
-use Rattle.hl_source.specs.Memory.{within, write_variable_word}
-use Rattle.hl_source.specs.State.{Progress, State, faults, goes_with, no_value, variable_words, with_variable}
+use Rattle.hl_source.specs.Memory.{within, write_letters, write_variable_word, write_words}
+use Rattle.hl_source.specs.State.{Context, Progress, State, each, faults, goes_with, no_value, variable_words, with_variable}
 use Rattle.hl_interpreter.proofs.Meeting.{same}
 
 pub within-in : {A : Type 0} (offset words : ℕ) (go : State → Progress A) (s : State) → offset < words → within offset words go s ≡ go s
@@ -52,3 +55,14 @@ variable-absent number s past = unwrap_or-slice_get s.variables number [] ∙ pa
     past-end [] n h = refl
     past-end (x ∷ l) zero h = absurd (omega arith)
     past-end (x ∷ l) (suc n) h = past-end l n (omega arith)
+
+-- ---- letters
+
+pub letters-none : (c : Context) (holder : Holder) (offset : ℕ) (letters words : List ℕ) (s : State) → true ≡ (length letters == 0) → write_letters c holder offset letters words s ≡ write_words c holder offset words s
+letters-none c holder offset [] words s none = refl
+letters-none c holder offset (letter ∷ letters) words s none = absurd (true≢false none)
+
+pub letters-some : (c : Context) (holder : Holder) (offset : ℕ) (letters words : List ℕ) (s : State) → false ≡ (length letters == 0)
+    → write_letters c holder offset letters words s ≡ no_value (each (λ w. write_words c holder (wrapping_add offset w.0) (w.1 ∷ [])) (zip letters words) s)
+letters-some c holder offset [] words s some = absurd (false≢true some)
+letters-some c holder offset (letter ∷ letters) words s some = refl

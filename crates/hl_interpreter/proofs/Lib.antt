@@ -12,6 +12,7 @@ pub mod HeldTypes
 pub mod Loops
 pub mod Meeting
 pub mod Registers
+pub mod Semantics
 pub mod Turns
 pub mod Values
 pub mod Weights

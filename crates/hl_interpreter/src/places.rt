@@ -1,6 +1,6 @@
 //! Where places stand, and what parts of values steps pick.
 
-ghost use Rattle.std.specs.Prelude.{◌≡◌, ◌≤◌, ℕ, List, IfOk, drop, map, option_and_then, option_map, slice_get, slice_index, take, unwrap_or};
+ghost use Rattle.std.specs.Prelude.{◌≡◌, ◌++◌, ◌≤◌, ℕ, List, IfOk, OnOk, drop, map, option_and_then, option_map, slice_get, slice_index, take, unwrap_or};
 ghost use Rattle.hl_meaning.specs.Layout.{kinds_of, words_of};
 ghost use Rattle.hl_meaning.specs.Places.{element_type, root_type, variable_type};
 ghost use Rattle.hl_meaning.specs.Trees.{PathParts, more_parts};
@@ -8,7 +8,7 @@ ghost use Rattle.hl_meaning.specs.Types.{struct_type, void_type};
 ghost use Rattle.hl_meaning.specs.Views.{plain_constant, plain_expr, plain_location, plain_member, plain_part, plain_parts, plain_resource, plain_root, plain_structs, plain_ty, plain_variable};
 ghost use Rattle.hl_source.specs.Offsets.{at_index, at_member, at_swizzle, element_of, further, holder_of, indexes_of_steps, literal_indexes, literal_word, member_of, picked_words, place_of, reached, slot_of, start_of};
 ghost use Rattle.hl_source.specs.Operations.{component_kind};
-ghost use Rattle.hl_interpreter.specs.HeldPlaces.{index_count, plain_holder, plain_place, plain_reached, plain_type};
+ghost use Rattle.hl_interpreter.specs.HeldPlaces.{index_count, literal_of, plain_holder, plain_place, plain_reached, plain_type};
 ghost use Rattle.hl_interpreter.specs.Runs.{context_of, run_context};
 
 use crate::components::{picked, word_at};
@@ -243,7 +243,8 @@ fn index_count(part: &PathPart) -> usize
 {
     match part {
         PathPart::Index(_) => 1,
-        PathPart::Member(_) | PathPart::Swizzle(_) => 0,
+        PathPart::Member(_) => 0,
+        PathPart::Swizzle(_) => 0,
     }
 }
 
@@ -359,7 +360,9 @@ fn indexes_of_steps<'a>(root: &Root, indexes: &'a [u32]) -> &'a [u32]
                 &indexes[1..]
             }
         }
-        Root::Variable(_) | Root::Constant(_) | Root::Shared(_) => indexes,
+        Root::Variable(_) => indexes,
+        Root::Constant(_) => indexes,
+        Root::Shared(_) => indexes,
     }
 }
 
@@ -401,11 +404,20 @@ fn literal_indexes(alloc: Global, parts: &[PathPart]) -> Result<Words, NoMemory>
 {
     let mut indexes = Words::new(alloc);
     for part in parts {
-        if let PathPart::Index(index) = part {
-            indexes.push(literal_word(index.get()))?;
-        }
+        add_literal(part, &mut indexes)?;
     }
     Ok(indexes)
+}
+
+/// Adds the word of a step that is an index.
+fn add_literal(part: &PathPart, indexes: &mut Words) -> Result<(), NoMemory>
+    ensures { OnOk result (indexes.new ≡ indexes.old ++ literal_of (plain_part part.now)) }
+{
+    match part {
+        PathPart::Index(index) => indexes.push(literal_word(index.get())),
+        PathPart::Member(_) => Ok(()),
+        PathPart::Swizzle(_) => Ok(()),
+    }
 }
 
 /// The words of what was reached among the words of a value.

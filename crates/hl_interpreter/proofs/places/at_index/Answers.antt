@@ -11,5 +11,5 @@ pub returns : goal.returns
 returns c =
     let structs = plain_structs c.args.program.now.structs in
     let from = plain_reached c.args.from in
-    c.further.ensures ∙ (ap (further from (plain_type c.element_of-element.result)) (c.wrapping_mul.ensures ∙ ap (wrapping_mul c.args.index) c.in_ok-words.ensures) ∙
+    c.further.ensures ∙ (ap (further from (plain_type c.element_of-element.result)) (ap (wrapping_mul c.args.index) c.in_ok-words.ensures) ∙
     ap (λ (t : Ty). further from t (wrapping_mul c.args.index (words_of structs t))) c.element_of-element.ensures)

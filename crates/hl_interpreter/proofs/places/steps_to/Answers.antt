@@ -13,8 +13,8 @@ loop-part-init c = record {
 
 pub loop-part-preserved : goal.loop-part-preserved
 loop-part-preserved c = record {
-  there = steps-turn (plain_structs c.args.program.now.structs) c.args.parts.now c.args.indexes.now _ (plain_reached c.loop-part.from) (plain_reached c.in_ok-stepped.field-0) c.loop-part.part-index c.loop-part.next
-      c.part-item.result c.word_at.result c.index_count.result c.loop-part-test.true c.part-item.is c.word_at.ensures c.index_count.ensures.value c.in_ok-stepped.ensures c.loop-part.invariant.there;
+  there = steps-turn (plain_structs c.args.program.now.structs) c.args.parts.now c.args.indexes.now _ (plain_reached c.loop-part.from) (plain_reached c.in_ok-from.from) c.loop-part.part-index c.loop-part.next
+      c.part-item.result c.word_at.result c.index_count-next.result c.loop-part-test.true c.part-item.is c.word_at.ensures c.index_count-next.ensures.value c.in_ok-from.ensures c.loop-part.invariant.there;
   few = omega arith;
 }
 

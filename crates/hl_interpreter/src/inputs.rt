@@ -82,6 +82,19 @@ fn input_words(
     first_words(run.alloc, words.as_slice(), parameter_count(function, parameter))
 }
 
+/// The words of each parameter of a function as the entry.
+fn inputs_of(run: &Run, function: &FunctionDef) -> Result<Sequence<Words>, NoMemory>
+    ensures { IfOk result (λ words. words
+        ≡ map (input_words (plain_program run.now.program.now) (lane_of run.now.lane.now) (map plain_variable function.now.variables)) function.now.parameters) }
+{
+    let mut inputs = Sequence::new(run.alloc);
+    for parameter in function.parameters.as_slice() {
+        let words = input_words(run, function, parameter)?;
+        inputs.push(words)?;
+    }
+    Ok(inputs)
+}
+
 /// The words of each parameter of the entry.
 ///
 /// # Errors
@@ -89,13 +102,8 @@ fn input_words(
 pub(crate) fn inputs(run: &Run) -> Result<Sequence<Words>, NoMemory>
     ensures { IfOk result (λ words. words ≡ inputs (plain_program run.now.program.now) (lane_of run.now.lane.now) (slice_get (plain_program run.now.program.now).functions run.now.program.now.entry)) }
 {
-    let mut inputs = Sequence::new(run.alloc);
-    let Some(function) = run.program.functions.get(run.program.entry as usize) else {
-        return Ok(inputs);
-    };
-    for parameter in function.parameters.as_slice() {
-        let words = input_words(run, function, parameter)?;
-        inputs.push(words)?;
+    match run.program.functions.get(run.program.entry as usize) {
+        Some(function) => inputs_of(run, function),
+        None => Ok(Sequence::new(run.alloc)),
     }
-    Ok(inputs)
 }

@@ -18,21 +18,33 @@ use lane_core::{Cell, Event, LaneFault};
 use std::alloc::Global;
 use std::mem;
 
+/// A word written at a place.
+///
+/// # Errors
+/// The fault `OutOfBounds` where there is none.
+fn set_word(variable: &mut [u32], at: u32, word: u32) -> Result<(), Stop>
+    ensures { (number : ℕ) (s : PlainState) → number < length s.variables → variable_words s number ≡ variable.old
+        → Does result (with_variable number variable.new s) (no_value (write_variable_word number at word s)) }
+{
+    let at = at as usize;
+    if at >= variable.len() {
+        return Err(Stop::from(LaneFault::OutOfBounds));
+    }
+    variable[at] = word;
+    Ok(())
+}
+
 /// Words written from an offset on, each sum wrapped.
 ///
 /// # Errors
-/// The fault `OutOfBounds` at the first one that isn't there.
+/// As of `set_word`, at the first one that isn't there.
 fn set_words(variable: &mut [u32], offset: u32, words: &[u32]) -> Result<(), Stop>
     requires { length words.now < 2 ^ 32 }
     ensures { (number : ℕ) (s : PlainState) → number < length s.variables → variable_words s number ≡ variable.old
         → Does result (with_variable number variable.new s) (no_value (each (λ w. write_variable_word number w.0 w.1) (zip (word_offsets offset (length words.now)) words.now) s)) }
 {
     for (more, word) in words.iter().enumerate() {
-        let at = offset.wrapping_add(more as u32) as usize;
-        if at >= variable.len() {
-            return Err(Stop::from(LaneFault::OutOfBounds));
-        }
-        variable[at] = *word;
+        set_word(variable, offset.wrapping_add(more as u32), *word)?;
     }
     Ok(())
 }

@@ -1,5 +1,6 @@
 -- What calls meet, by what their parts give.
 use Rattle.std.proofs.Common.{◌≡◌, ◌∙◌, refl, sym, ap, ℕ, suc, ◌+◌, List, [], ◌∷◌, ◌++◌, length, drop, map, slice_index_or, Option, Result, Ok, Err, arith}
+use Rattle.lane_core.specs.declared.event.Reply.{Reply}
 use Rattle.hl_meaning.specs.Trees.{Arg, Args, call_form, more_args, no_args, place_arg, place_type, value_arg}
 use Rattle.hl_meaning.specs.Types.{Ty}
 use Rattle.hl_meaning.specs.declared.program.Parameter.{Parameter}
@@ -7,7 +8,9 @@ use Rattle.hl_source.specs.Expressions.{acts, argument, argument_of, arguments, 
 use Rattle.hl_source.specs.State.{Callee, Context, Progress, State, after, goes_with, joined}
 use Rattle.hl_interpreter.specs.declared.run.Stop.{Stop}
 use Rattle.hl_interpreter.specs.Operands.{interleaved}
-use Rattle.hl_interpreter.specs.Runs.{Does, Gives, Meets, form_value}
+use Rattle.hl_interpreter.specs.declared.state.State.{State as HeldState}
+use Rattle.hl_interpreter.specs.Runs.{Does, Gives, Meets, form_value, state_of}
+use Rattle.hl_interpreter.proofs.Asking.{between}
 use Rattle.hl_interpreter.proofs.Meeting.{behind, behind-joined, behind-joined-stops, goes, same, stops}
 
 -- ---- the operands of arguments
@@ -77,3 +80,15 @@ module _ (c : Context) (first : Arg) (rest : Args) (p : Parameter) (parameters :
   argument-next t a x e h =
       is ∙ (behind-joined (interleaved indexes start) (argument a x) t (argument_of c first p.copying s) (λ s'. arguments c rest parameters s') h ∙
       ap (λ l. behind l (arguments c rest parameters t)) (interleaved-more indexes start a x e))
+
+-- ---- behind a call
+
+-- the arguments' values are written back with the caller's variables
+pub copied-same : (c : Context) (args : Args) (replies : List Reply) (held indexes start : List (List ℕ)) (parameters : List (List ℕ)) (before ended : HeldState) (own : List (List ℕ))
+    → held ≡ indexes → parameters ≡ ended.variables.items → own ≡ before.variables.items
+    → copies_out c args (interleaved held start) parameters (between replies own ended.events)
+    ≡ copies_out c args (interleaved indexes start) (state_of replies ended).variables (record (state_of replies before) { exchange = (state_of replies ended).exchange })
+copied-same c args replies held indexes start parameters before ended own a b d =
+    ap (λ l. copies_out c args (interleaved l start) parameters (between replies own ended.events)) a ∙
+    (ap (λ l. copies_out c args (interleaved indexes start) l (between replies own ended.events)) b ∙
+    ap (λ l. copies_out c args (interleaved indexes start) ended.variables.items (between replies l ended.events)) d)

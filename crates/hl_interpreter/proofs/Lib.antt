@@ -1,4 +1,6 @@
+pub mod Arms
 pub mod Asking
+pub mod Branching
 pub mod Callees
 pub mod Calls
 pub mod Cells
@@ -10,9 +12,11 @@ pub mod Fours
 pub mod HeldNames
 pub mod HeldPaths
 pub mod HeldTypes
+pub mod Indexing
 pub mod Loops
 pub mod Meeting
 pub mod Registers
+pub mod Running
 pub mod Semantics
 pub mod Turns
 pub mod Values

@@ -2,10 +2,10 @@
 
 ghost use Rattle.std.specs.Prelude.{◌≡◌, ℕ, List, length};
 ghost use Rattle.hl_meaning.specs.Trees.{place_type};
-ghost use Rattle.hl_meaning.specs.Views.{plain_args, plain_location};
+ghost use Rattle.hl_meaning.specs.Views.{plain_arg, plain_args, plain_location};
 ghost use Rattle.hl_source.specs.Expressions.{copies_out, parameters_of, starts_with, value_of_words};
 ghost use Rattle.hl_source.specs.Memory.{write_place};
-ghost use Rattle.hl_interpreter.specs.Operands.{interleaved};
+ghost use Rattle.hl_interpreter.specs.Operands.{copies_if, interleaved};
 ghost use Rattle.hl_interpreter.specs.Runs.{Does, Gives, context_of, state_of};
 
 use crate::components::{words_by_kind, zeros};
@@ -63,6 +63,22 @@ fn copies_back(
     write_place(context, place, indexes, words.as_slice(), state)
 }
 
+/// The value of a parameter is written back where its argument is a place.
+fn copies_if(
+    context: &Context,
+    arg: &Arg,
+    indexes: &[u32],
+    words: &[u32],
+    state: &mut State,
+) -> Result<(), Stop>
+    ensures { Does result (state_of context.now.run.now.replies.now state.new) (copies_if (context_of context.now) (plain_arg arg.now) indexes.now words.now (state_of context.now.run.now.replies.now state.old)) }
+{
+    match arg {
+        Arg::Place(place) => copies_back(context, place, indexes, words, state),
+        Arg::Value(_) => Ok(()),
+    }
+}
+
 /// Behind the body the values of `out` and `inout` parameters are written back, in order of the parameters.
 pub(crate) fn copies_out(
     context: &Context,
@@ -74,14 +90,10 @@ pub(crate) fn copies_out(
     ensures { (starts : List (List ℕ)) → length starts ≡ length indexes.now
         → Does result (state_of context.now.run.now.replies.now state.new) (copies_out (context_of context.now) (plain_args args.now) (interleaved indexes.now starts) parameters.now (state_of context.now.run.now.replies.now state.old)) }
 {
-    for (at, arg) in args.as_slice().iter().enumerate() {
-        if at >= indexes.len() || at >= parameters.len() {
-            return Ok(());
-        }
-        if let Arg::Place(place) = arg {
-            let words = parameters[at].as_slice();
-            copies_back(context, place, indexes[at].as_slice(), words, state)?;
-        }
+    let items = args.as_slice();
+    for at in 0..items.len().min(indexes.len()).min(parameters.len()) {
+        let words = parameters[at].as_slice();
+        copies_if(context, &items[at], indexes[at].as_slice(), words, state)?;
     }
     Ok(())
 }

@@ -3,17 +3,17 @@
 //! An expression evaluates its operands from left to right, and then acts on their words. All functions give want of
 //! memory where memory is refused, and the end of the run where it ends in them.
 
-ghost use Rattle.std.specs.Prelude.{◌≡◌, [], IfOk, None, Some, map, option_map, slice_index, slice_index_or, take};
+ghost use Rattle.std.specs.Prelude.{◌≡◌, ℕ, List, [], ◌∷◌, IfOk, length, None, Some, map, option_map, slice_index, slice_index_or, take};
 ghost use Rattle.std.specs.List.{concat};
 ghost use Rattle.hl_meaning.specs.Trees.{atomic_form, binary_form, call_form, choose_form, do_stmt, for_stmt, if_stmt, method_form, while_stmt};
 ghost use Rattle.hl_meaning.specs.Types.{Ty};
 ghost use Rattle.hl_meaning.specs.Views.{plain_arg, plain_args, plain_expr, plain_exprs, plain_function, plain_location, plain_maybe_expr, plain_maybe_location, plain_maybe_stmt, plain_part, plain_root, plain_stmt, plain_stmts, plain_target};
-ghost use Rattle.hl_source.specs.Expressions.{argument_of, arguments, evaluates, indexes, indexes_if, no_callee, root_index, step_index, target_indexes, value_if, values};
-ghost use Rattle.hl_source.specs.Memory.{load_four};
+ghost use Rattle.hl_source.specs.Expressions.{argument_of, arguments, atomic_original, write_if, evaluates, indexes, indexes_if, no_callee, root_index, step_index, target_indexes, value_if, values};
+ghost use Rattle.hl_source.specs.Memory.{load_four, store_four};
 ghost use Rattle.hl_source.specs.Offsets.{slot_of};
 ghost use Rattle.hl_source.specs.SourceLane.{value_of};
-ghost use Rattle.hl_source.specs.State.{State as PlainState, after, goes_with};
-ghost use Rattle.hl_source.specs.Statements.{Doing, computes_if, condition, condition_if, declares, does, does_all, returns, tested_turn, testing_turn, then_loop};
+ghost use Rattle.hl_source.specs.State.{State as PlainState, after, goes_with, no_value};
+ghost use Rattle.hl_source.specs.Statements.{Doing, computes_if, condition, condition_if, declares, does, does_all, returns, tested_turn, testing_turn, then_loop, turns};
 ghost use Rattle.hl_interpreter.specs.Operands.{operands_of, pair_of};
 ghost use Rattle.hl_interpreter.specs.Runs.{Gives, Meets, callees_behind, context_of, form_value, loop_left, plain_leaving, run_context, state_of, tests};
 
@@ -73,10 +73,7 @@ pub(crate) fn evaluates(context: &Context, expr: &Expr, state: &mut State) -> Re
 {
     let alloc = context.run.alloc;
     match &expr.form {
-        Form::Literal(word) => {
-            let words = one_word(alloc, *word)?;
-            Ok(words)
-        }
+        Form::Literal(word) => given(one_word(alloc, *word)),
         Form::Read(place) => {
             let indexes = indexes(context, place, state)?;
             read_place(context, place, indexes.as_slice(), state)
@@ -104,13 +101,11 @@ pub(crate) fn evaluates(context: &Context, expr: &Expr, state: &mut State) -> Re
         Form::Convert(value) => {
             let value = value.get();
             let words = evaluates(context, value, state)?;
-            let words = converted(alloc, &value.ty, &expr.ty, words.as_slice())?;
-            Ok(words)
+            given(converted(alloc, &value.ty, &expr.ty, words.as_slice()))
         }
         Form::Unary { op, value } => {
             let words = evaluates(context, value.get(), state)?;
-            let words = unary_words(alloc, *op, words.as_slice())?;
-            Ok(words)
+            given(unary_words(alloc, *op, words.as_slice()))
         }
         Form::Binary { op, left, right } => { binary(context, *op, left.get(), right.get(), state) }
         Form::Choose { cond, yes, no } => {
@@ -118,14 +113,12 @@ pub(crate) fn evaluates(context: &Context, expr: &Expr, state: &mut State) -> Re
         }
         Form::Build(parts) => {
             let values = values(context, parts, state)?;
-            let words = joined(alloc, values.as_slice())?;
-            Ok(words)
+            given(joined(alloc, values.as_slice()))
         }
         Form::Pick { value, parts } => {
             let value = value.get();
             let words = evaluates(context, value, state)?;
-            let words = picked_words(context.run, &value.ty, parts.as_slice(), words.as_slice())?;
-            Ok(words)
+            given(picked_words(context.run, &value.ty, parts.as_slice(), words.as_slice()))
         }
         Form::Call { function, args } => calls(context, *function, args, state),
         Form::Intrinsic { number, args } => {
@@ -192,13 +185,22 @@ fn choice(
     let truths = evaluates(context, cond, state)?;
     let words = evaluates(context, consequent, state)?;
     let others = evaluates(context, alternative, state)?;
-    let chosen = chosen_words(
+    given(chosen_words(
         context.run.alloc,
         truths.as_slice(),
         words.as_slice(),
         others.as_slice(),
-    )?;
-    Ok(chosen)
+    ))
+}
+
+/// Words, where there was memory for them.
+fn given(words: Result<Words, NoMemory>) -> Result<Words, Stop>
+    ensures { (value : List ℕ) (s : PlainState) → IfOk words (λ found. found ≡ value) → Gives result s (goes_with value s) }
+{
+    match words {
+        Ok(words) => Ok(words),
+        Err(_) => Err(Stop::Memory),
+    }
 }
 
 /// The words of values, one after another.
@@ -280,16 +282,7 @@ fn method(
         None => load_method(run, resource, count, at.as_slice(), state),
         Some(value) => {
             let words = evaluates(context, value.get(), state)?;
-            let slot = slot_of(run, resource);
-            store_four(
-                run,
-                slot,
-                word_at(at.as_slice(), 0),
-                0,
-                words.as_slice(),
-                state,
-            )?;
-            Ok(Words::new(run.alloc))
+            store_method(run, resource, at.as_slice(), words.as_slice(), state)
         }
     }
 }
@@ -307,8 +300,23 @@ fn load_method(
 {
     let slot = slot_of(run, resource);
     let words = load_four(run, slot, word_at(at, 0), 0, state)?;
-    let first = first_words(run.alloc, words.as_slice(), count as usize)?;
-    Ok(first)
+    given(first_words(run.alloc, words.as_slice(), count as usize))
+}
+
+/// One store at a byte address. It has no words.
+fn store_method(
+    run: &Run,
+    resource: u32,
+    at: &[u32],
+    words: &[u32],
+    state: &mut State,
+) -> Result<Words, Stop>
+    ensures { Gives result (state_of run.now.replies.now state.new)
+        (store_four (slot_of (run_context run.now) resource) (slice_index at.now 0) 0 words.now (state_of run.now.replies.now state.old)) }
+{
+    let slot = slot_of(run, resource);
+    store_four(run, slot, word_at(at, 0), 0, words, state)?;
+    Ok(Words::new(run.alloc))
 }
 
 /// An atomic operation.
@@ -330,8 +338,38 @@ fn atomic(
     let place = indexes_if(context, original, state)?;
     let compare = word_at(compared.as_slice(), 0);
     let word = word_at(words.as_slice(), 0);
-    let before = atomic_original(context, target, kind, at.as_slice(), compare, word, state)?;
-    write_original(context, original, place.as_slice(), before, state)?;
+    operates(
+        context,
+        target,
+        kind,
+        original,
+        at.as_slice(),
+        compare,
+        word,
+        place.as_slice(),
+        state,
+    )
+}
+
+/// An atomic operation with the words of its operands. It has no words: the original value is written where a place for it
+/// is given.
+fn operates(
+    context: &Context,
+    target: &Target,
+    kind: Option<AtomicKind>,
+    original: &Option<Location>,
+    at: &[u32],
+    compare: u32,
+    word: u32,
+    place: &[u32],
+    state: &mut State,
+) -> Result<Words, Stop>
+    ensures { Gives result (state_of context.now.run.now.replies.now state.new)
+        (after (atomic_original (context_of context.now) (plain_target target.now) kind at.now compare word (state_of context.now.run.now.replies.now state.old))
+        (λ before s. no_value (write_if (context_of context.now) (plain_maybe_location original.now) place.now (before ∷ []) s))) }
+{
+    let before = atomic_original(context, target, kind, at, compare, word, state)?;
+    write_original(context, original, place, before, state)?;
     Ok(Words::new(context.run.alloc))
 }
 
@@ -380,20 +418,19 @@ fn arguments(
     args: &Args,
     state: &mut State,
 ) -> Result<Passed, Stop>
-    ensures { Meets operands_of result (state_of context.now.run.now.replies.now state.new) (arguments (context_of context.now) (plain_args args.now) parameters.now (state_of context.now.run.now.replies.now state.old)) }
+    ensures both { IfOk result (λ passed. length passed.indexes ≡ length passed.starts) }
+    ensures met { Meets operands_of result (state_of context.now.run.now.replies.now state.new) (arguments (context_of context.now) (plain_args args.now) parameters.now (state_of context.now.run.now.replies.now state.old)) }
 {
     let mut passed = Passed {
         indexes: Sequence::new(context.run.alloc),
         starts: Sequence::new(context.run.alloc),
     };
-    for (at, arg) in args.as_slice().iter().enumerate() {
-        if at >= parameters.len() {
-            return Ok(passed);
-        }
+    let items = args.as_slice();
+    for at in 0..items.len().min(parameters.len()) {
         let PassedArgument { indexes, start } = argument(
             context,
             parameters[at].copying,
-            arg,
+            &items[at],
             state,
         )?;
         passed.indexes.push(indexes)?;
@@ -630,9 +667,22 @@ fn for_loop(
     ensures { Meets plain_leaving result (state_of context.now.run.now.replies.now state.new) (does (context_of context.now) context.now.run.now.turns (for_stmt (plain_stmts init.now) (option_map plain_expr cond.now) (option_map plain_expr step.now) (plain_stmt body.now)) (state_of context.now.run.now.replies.now state.old)) }
 {
     match does_all(context, init, state)? {
-        Leaving::AtEnd => {}
-        leaving => return Ok(leaving),
+        Leaving::AtEnd => for_turns(context, cond, step, body, state),
+        leaving => Ok(leaving),
     }
+}
+
+/// The turns of a `for`.
+#[cycle(running)]
+fn for_turns(
+    context: &Context,
+    cond: &Option<Expr>,
+    step: &Option<Expr>,
+    body: &Stmt,
+    state: &mut State,
+) -> Result<Leaving, Stop>
+    ensures { Meets plain_leaving result (state_of context.now.run.now.replies.now state.new) (turns context.now.run.now.turns (tested_turn (context_of context.now) (option_map plain_expr cond.now) (λ s. does (context_of context.now) context.now.run.now.turns (plain_stmt body.now) s) (option_map plain_expr step.now)) (state_of context.now.run.now.replies.now state.old)) }
+{
     for _turn in 0..context.run.turns {
         let leaving = for_turn(context, cond, step, body, state)?;
         if let Some(leaving) = behind_turn(leaving) {

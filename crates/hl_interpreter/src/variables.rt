@@ -32,13 +32,12 @@ pub(crate) fn add_variables(
         ≡ state.old.variables.items ++ map (λ v. zeros_of (run_context run.now) v.ty) (drop (length function.now.parameters) (map plain_variable function.now.variables))) }
     ensures events { state.new.events ≡ state.old.events }
 {
-    let parameters = function.parameters.len();
-    for (at, variable) in function.variables.as_slice().iter().enumerate() {
-        if at >= parameters {
-            let count = words_of(run.program, &variable.ty)?;
-            let words = zeros(run.alloc, count)?;
-            push_variable(words, state)?;
-        }
+    let variables = function.variables.as_slice();
+    let first = function.parameters.len().min(variables.len());
+    for variable in &variables[first..] {
+        let count = words_of(run.program, &variable.ty)?;
+        let words = zeros(run.alloc, count)?;
+        push_variable(words, state)?;
     }
     Ok(())
 }

@@ -5,7 +5,7 @@ use Rattle.hl_meaning.specs.declared.expression.Location.{size-Location}
 use Rattle.hl_meaning.specs.declared.expression.PathPart.{size-PathPart}
 use Rattle.hl_meaning.specs.declared.expression.Root.{size-Root}
 use Rattle.hl_meaning.specs.declared.expression.Target.{size-Target}
-use Rattle.hl_meaning.specs.Trees.{do_stmt, for_stmt, while_stmt}
+use Rattle.hl_meaning.specs.Trees.{do_stmt, while_stmt}
 use Rattle.hl_meaning.specs.Views.{plain_args, plain_expr, plain_exprs, plain_location, plain_parts, plain_stmt, plain_stmts}
 use Rattle.hl_source.specs.Expressions.{arguments, indexes, step_indexes, values}
 use Rattle.hl_source.specs.Statements.{does, does_all, tested_turn, testing_turn, turns}
@@ -96,7 +96,11 @@ decreases-branches l =
 
 abbrev pub decreases-for_loop : goal.decreases-for_loop
 decreases-for_loop l =
-    16 * (weight_of l.context.now.callees.now + (stmts_weight l.init.now + (expr_if l.cond.now + (expr_if l.step.now + stmt_weight l.body.now)))) + 4
+    16 * (weight_of l.context.now.callees.now + (stmts_weight l.init.now + (expr_if l.cond.now + (expr_if l.step.now + stmt_weight l.body.now)))) + 5
+
+abbrev pub decreases-for_turns : goal.decreases-for_turns
+decreases-for_turns l =
+    16 * (weight_of l.context.now.callees.now + (expr_if l.cond.now + (expr_if l.step.now + stmt_weight l.body.now))) + 4
 
 abbrev pub decreases-for_turn : goal.decreases-for_turn
 decreases-for_turn l =
@@ -132,7 +136,7 @@ invariant-values-loop-expr l =
 abbrev pub invariant-arguments-loop-at : goal.invariant-arguments-loop-at
 invariant-arguments-loop-at l = record {
   whole : arguments (context_of l.context) (plain_args l.args) l.parameters (state_of l.context.run.now.replies.now l.fn.state) ≡
-      behind (operands_of l.passed) (arguments (context_of l.context) (plain_args (drop l.at l.arg-items)) (drop l.at l.parameters) (state_of l.context.run.now.replies.now l.state));
+      behind (operands_of l.passed) (arguments (context_of l.context) (plain_args (drop l.at l.items)) (drop l.at l.parameters) (state_of l.context.run.now.replies.now l.state));
   both : length l.passed.indexes ≡ length l.passed.starts;
 }
 
@@ -141,23 +145,24 @@ invariant-does_all-loop-stmt l =
     does_all (context_of l.context) l.context.run.now.turns (plain_stmts l.stmts) (state_of l.context.run.now.replies.now l.fn.state) ≡
     does_all (context_of l.context) l.context.run.now.turns (plain_stmts (drop l.stmt-index l.stmt-items)) (state_of l.context.run.now.replies.now l.state)
 
-abbrev pub invariant-for_loop-loop-_turn : goal.invariant-for_loop-loop-_turn
-invariant-for_loop-loop-_turn l =
-    does (context_of l.context) l.context.run.now.turns (for_stmt (plain_stmts l.init) (option_map plain_expr l.cond) (option_map plain_expr l.step) (plain_stmt l.body))
+abbrev pub invariant-for_turns-loop-turn : goal.invariant-for_turns-loop-turn
+invariant-for_turns-loop-turn l =
+    turns l.context.run.now.turns
+    (tested_turn (context_of l.context) (option_map plain_expr l.cond) (λ s. does (context_of l.context) l.context.run.now.turns (plain_stmt l.body) s) (option_map plain_expr l.step))
     (state_of l.context.run.now.replies.now l.fn.state) ≡
     turns (l.context.run.now.turns - l._turn)
     (tested_turn (context_of l.context) (option_map plain_expr l.cond) (λ s. does (context_of l.context) l.context.run.now.turns (plain_stmt l.body) s) (option_map plain_expr l.step))
     (state_of l.context.run.now.replies.now l.state)
 
-abbrev pub invariant-while_loop-loop-_turn : goal.invariant-while_loop-loop-_turn
-invariant-while_loop-loop-_turn l =
+abbrev pub invariant-while_loop-loop-turn : goal.invariant-while_loop-loop-turn
+invariant-while_loop-loop-turn l =
     does (context_of l.context) l.context.run.now.turns (while_stmt (plain_expr l.cond) (plain_stmt l.body)) (state_of l.context.run.now.replies.now l.fn.state) ≡
     turns (l.context.run.now.turns - l._turn)
     (tested_turn (context_of l.context) (Some (plain_expr l.cond)) (λ s. does (context_of l.context) l.context.run.now.turns (plain_stmt l.body) s) None)
     (state_of l.context.run.now.replies.now l.state)
 
-abbrev pub invariant-do_loop-loop-_turn : goal.invariant-do_loop-loop-_turn
-invariant-do_loop-loop-_turn l =
+abbrev pub invariant-do_loop-loop-turn : goal.invariant-do_loop-loop-turn
+invariant-do_loop-loop-turn l =
     does (context_of l.context) l.context.run.now.turns (do_stmt (plain_stmt l.body) (plain_expr l.cond)) (state_of l.context.run.now.replies.now l.fn.state) ≡
     turns (l.context.run.now.turns - l._turn)
     (testing_turn (context_of l.context) (λ s. does (context_of l.context) l.context.run.now.turns (plain_stmt l.body) s) (plain_expr l.cond))

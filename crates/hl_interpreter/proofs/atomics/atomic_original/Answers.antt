@@ -17,7 +17,7 @@ returns-in_err-place-in-Place c = memory-exit (λ w. w) c.from_residual.result _
 pub returns-in_ok-place-in-Place : goal.returns-in_ok-place-in-Place
 returns-in_ok-place-in-Place c =
     let context = context_of c.args.context.now in
-    let s = state_of c.args.context.now.run.now.replies.now c.args.state.old in
+    let s = state_of c.args.context.now.run.now.replies.now c.args.state.now in
     same (λ w. w) c.atomic_word.result _ _ _
     (ap (λ (p : Place). atomic_word context p.holder p.at.offset c.args.kind c.args.compare c.args.word s) c.in_ok-place-in-Place.ensures ∙
     sym (ap (λ t. atomic_original context t c.args.kind c.args.indexes.now c.args.compare c.args.word s) (ap plain_target c.in-Place.is ∙ plain_target-Place c.in-Place.location)))
@@ -26,7 +26,7 @@ returns-in_ok-place-in-Place c =
 pub returns-in-Bytes : goal.returns-in-Bytes
 returns-in-Bytes c =
     let context = context_of c.args.context.now in
-    let s = state_of c.args.context.now.run.now.replies.now c.args.state.old in
+    let s = state_of c.args.context.now.run.now.replies.now c.args.state.now in
     same (λ w. w) c.asks_word.result _ _ _
     (ap (λ e. asks_word e s) (c.buffer_atomic.ensures ∙ (ap (λ slot. buffer_atomic slot c.word_at-address.result 0 c.args.kind c.args.compare c.args.word) c.slot_of-slot.ensures ∙
     ap (λ address. buffer_atomic _ address 0 c.args.kind c.args.compare c.args.word) c.word_at-address.ensures)) ∙

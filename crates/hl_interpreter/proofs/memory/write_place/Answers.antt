@@ -11,5 +11,5 @@ returns-in_err-place c = memory-exit (λ _. []) c.from_residual.result _ _ c.fro
 
 pub returns : goal.returns
 returns c =
-    let s = state_of c.args.context.now.run.now.replies.now c.args.state.old in
+    let s = state_of c.args.context.now.run.now.replies.now c.args.state.now in
     same (λ _. []) c.write_letters.result _ _ _ (ap (λ (p : Place). write_letters (context_of c.args.context.now) p.holder p.at.offset p.at.letters c.args.words.now s) c.in_ok-place.ensures) c.write_letters.ensures

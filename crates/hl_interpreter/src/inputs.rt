@@ -9,7 +9,7 @@ ghost use Rattle.hl_source.specs.SourceLane.{components, dispatch_thread, flat_i
 ghost use Rattle.lane_core.specs.Words.{wrapped};
 ghost use Rattle.hl_interpreter.specs.Runs.{lane_of};
 
-use crate::components::first_words;
+use crate::components::{first_words, one_word};
 use crate::operations::component_count;
 use crate::run::{LanePlace, Run};
 use base_core::{NoMemory, Sequence, Words};
@@ -37,7 +37,33 @@ fn dispatch_thread(threads: [u32; 3], lane: &LanePlace) -> [u32; 3]
     ]
 }
 
-/// The components of an input.
+/// The words of a place in a grid.
+fn place_words(alloc: Global, place: [u32; 3]) -> Result<Words, NoMemory>
+    ensures { IfOk result (λ words. words ≡ map wrapped (components (grid_of place))) }
+{
+    Words::from_slice(alloc, &[place[0], place[1], place[2]])
+}
+
+/// The components of what a semantic says.
+fn components_of(
+    alloc: Global,
+    threads: [u32; 3],
+    lane: &LanePlace,
+    semantic: Semantic,
+) -> Result<Words, NoMemory>
+    ensures { IfOk result (λ words. words ≡ map wrapped (semantic_components (grid_of threads) (lane_of lane.now) (Some semantic))) }
+{
+    match semantic {
+        Semantic::DispatchThreadId => {
+            Words::from_slice(alloc, &dispatch_thread(threads, lane))
+        }
+        Semantic::GroupId => place_words(alloc, lane.group),
+        Semantic::GroupThreadId => place_words(alloc, lane.thread),
+        Semantic::GroupIndex => one_word(alloc, flat_index(threads, lane.thread)),
+    }
+}
+
+/// The components of an input, none without a semantic.
 fn semantic_words(
     alloc: Global,
     threads: [u32; 3],
@@ -47,14 +73,7 @@ fn semantic_words(
     ensures { IfOk result (λ words. words ≡ map wrapped (semantic_components (grid_of threads) (lane_of lane.now) semantic)) }
 {
     match semantic {
-        Some(Semantic::DispatchThreadId) => {
-            Words::from_slice(alloc, &dispatch_thread(threads, lane))
-        }
-        Some(Semantic::GroupId) => Words::from_slice(alloc, &lane.group),
-        Some(Semantic::GroupThreadId) => Words::from_slice(alloc, &lane.thread),
-        Some(Semantic::GroupIndex) => {
-            Words::from_slice(alloc, &[flat_index(threads, lane.thread)])
-        }
+        Some(semantic) => components_of(alloc, threads, lane, semantic),
         None => Ok(Words::new(alloc)),
     }
 }

@@ -3,7 +3,7 @@ use Rattle.lane_core.specs.declared.event.Slot.{Slot}
 use Rattle.hl_source.specs.Memory.{byte_offset, pieces, store_four}
 use Rattle.hl_source.specs.State.{Progress, State, goes_with, no_value}
 use Rattle.hl_interpreter.specs.Runs.{state_of}
-use Rattle.hl_interpreter.proofs.Exits.{stop-exit}
+use Rattle.hl_interpreter.proofs.Exits.{effect, stop-exit}
 use Rattle.hl_interpreter.proofs.Fours.{piece-within}
 use Rattle.hl_interpreter.proofs.Loops.{done-end, done-stops, done-turn, length-pieces, piece-next}
 use Rattle.hl_interpreter.proofs.Meeting.{same, stops}
@@ -32,10 +32,10 @@ returns-in_err-store_four c =
     let e = c.in_err-store_four.field-0.0 in
     let s = state_of c.args.run.now.replies.now c.loop-piece.state in
     let t = state_of c.args.run.now.replies.now c.store_four.new.state in
-    stop-exit (λ _. []) c.from_residual.result e t _ c.from_residual.ensures.1
-    (done-stops part (pieces (length words)) _ (λ _. []) i (4 * i) e s t (piece-next (length words) i (subst (λ n. i < n) c.div_ceil-piece-end.ensures c.loop-piece-test.true)) c.loop-piece.invariant
-    (stops (λ _. []) (λ _. []) e t _ (λ _ u. goes_with [] u)
-    (same (λ _. []) (Err e) t _ _ (sym (stored c.args.slot c.args.index _ _ _ _ s c.byte_offset.ensures c.four_at-some.ensures)) c.in_err-store_four.ensures)))
+    stop-exit effect c.from_residual.result e t _ c.from_residual.ensures.1
+    (done-stops part (pieces (length words)) _ effect i (4 * i) e s t (piece-next (length words) i (subst (λ n. i < n) c.div_ceil-piece-end.ensures c.loop-piece-test.true)) c.loop-piece.invariant
+    (stops effect effect e t _ (λ _ u. goes_with [] u)
+    (same effect (Err e) t _ _ (sym (stored c.args.slot c.args.index _ _ _ _ s c.byte_offset.ensures c.four_at-some.ensures)) c.in_err-store_four.ensures)))
 
 pub returns : goal.returns
 returns c =

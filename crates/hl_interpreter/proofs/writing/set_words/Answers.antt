@@ -6,7 +6,7 @@ use Rattle.hl_source.specs.Memory.{word_offsets, write_variable_word}
 use Rattle.hl_source.specs.State.{Progress, State, each, goes_with, no_value, with_variable}
 use Rattle.hl_interpreter.specs.Runs.{Does}
 use Rattle.hl_interpreter.proofs.Cells.{variable-same, variable-twice, variable-written, variables-kept}
-use Rattle.hl_interpreter.proofs.Exits.{stop-exit}
+use Rattle.hl_interpreter.proofs.Exits.{effect, stop-exit}
 use Rattle.hl_interpreter.proofs.Loops.{done-end, done-stops, done-turn, length-written, written-next}
 use Rattle.hl_interpreter.proofs.writing.set_words.Goals as goal
 
@@ -44,8 +44,8 @@ returns-in_err-set_word c = λ number s there is.
     let new = c.set_word.new.variable in
     let e = c.in_err-set_word.field-0.0 in
     let before : State = with_variable number old s in
-    stop-exit (λ _. []) c.from_residual.result e (with_variable number new s) (whole_of number offset words s) c.from_residual.ensures.1
-    (done-stops (part_of number) (zip (word_offsets offset (length words)) words) (whole_of number offset words s) (λ _. []) i (wrapping_add offset i, word) e before (with_variable number new s)
+    stop-exit effect c.from_residual.result e (with_variable number new s) (whole_of number offset words s) c.from_residual.ensures.1
+    (done-stops (part_of number) (zip (word_offsets offset (length words)) words) (whole_of number offset words s) effect i (wrapping_add offset i, word) e before (with_variable number new s)
     (written-next offset words i word c.loop-more-test.true (get_or_default words i 0 word c.loop-more-test.true)) (c.loop-more.invariant number s there is)
     (subst (λ t. Does (Err e) t (no_value (write_variable_word number (wrapping_add offset i) word before))) (variable-twice number old new s)
     (c.in_err-set_word.ensures number before (variables-kept number number old s there) (variable-written number old s there))))

@@ -1,6 +1,6 @@
 //! The inputs of the entry (HLSL, "Semantics").
 
-ghost use Rattle.std.specs.Prelude.{◌≡◌, IfOk, map, slice_get, unwrap_or};
+ghost use Rattle.std.specs.Prelude.{◌≡◌, ◌∷◌, [], IfOk, map, slice_get, unwrap_or};
 ghost use Rattle.hl_meaning.specs.Held.{plain_program};
 ghost use Rattle.hl_meaning.specs.Places.{variable_type};
 ghost use Rattle.hl_meaning.specs.Types.{component_count, void_type};
@@ -41,7 +41,14 @@ fn dispatch_thread(threads: [u32; 3], lane: &LanePlace) -> [u32; 3]
 fn place_words(alloc: Global, place: [u32; 3]) -> Result<Words, NoMemory>
     ensures { IfOk result (λ words. words ≡ map wrapped (components (grid_of place))) }
 {
-    Words::from_slice(alloc, &[place[0], place[1], place[2]])
+    three_words(alloc, place[0], place[1], place[2])
+}
+
+/// Three words.
+fn three_words(alloc: Global, x: u32, y: u32, z: u32) -> Result<Words, NoMemory>
+    ensures { IfOk result (λ words. words ≡ map wrapped (x ∷ y ∷ z ∷ [])) }
+{
+    Words::from_slice(alloc, &[x, y, z])
 }
 
 /// The components of what a semantic says.

@@ -9,10 +9,13 @@ use Rattle.std.proofs.lemmas.Option.{unwrap_or-slice_get}
 use Rattle.lane_core.specs.declared.event.LaneFault.TheVariants.{OutOfBounds}
 use Rattle.hl_source.specs.Memory.{within, word_offsets, write_letters, write_variable_word, write_words}
 use Rattle.hl_source.specs.State.{Context, Progress, State, each, ends_at, faults, first_then, goes_with, no_value, variable_words, with_variable}
+use Rattle.lane_core.specs.declared.event.Event.{Event}
+use Rattle.lane_core.specs.declared.event.Reply.{Reply}
 use Rattle.lane_core.specs.Lane.{standing}
 use Rattle.hl_interpreter.specs.declared.run.Stop.{Stop}
 use Rattle.hl_interpreter.specs.declared.run.Stop.TheVariants.{Ends, Memory}
 use Rattle.hl_interpreter.specs.Runs.{Meets}
+use Rattle.hl_interpreter.proofs.Asking.{between}
 
 pub within-in : {A : Type 0} (offset words : ℕ) (go : State → Progress A) (s : State) → offset < words → within offset words go s ≡ go s
 within-in offset words go s there = ap (λ b. (if b then go else faults OutOfBounds) s) (lt-ltb offset words there)
@@ -96,3 +99,14 @@ nothing-written number offset (word ∷ words) s some past =
 pub same-exchange : {A C : Type 0} (view : A → C) (e : Stop) (s t : State) (p : Progress C) → s.exchange ≡ t.exchange → Meets view (Err e) s p → Meets view (Err e) t p
 same-exchange view Memory s t p is h = tt
 same-exchange view (Ends outcome) s t p is h = h ∙ ap (λ x. ends_at (standing x outcome)) is
+
+-- ---- a variable whose words were taken out
+
+pub exchange-kept : (replies : List Reply) (variables : List (List ℕ)) (events more : List Event) → more ≡ events → (between replies variables events).exchange ≡ (between replies variables more).exchange
+exchange-kept replies variables events more is = ap (λ l. (between replies variables l).exchange) (sym is)
+
+pub put-back : (replies : List Reply) (number : ℕ) (before taken : List (List ℕ)) (events more : List Event) (words put : List ℕ) → taken ≡ slice_set before number [] → more ≡ events → put ≡ words
+    → with_variable number words (between replies before events) ≡ between replies (slice_set taken number put) more
+put-back replies number before taken events more words put out is same =
+    ap (λ l. between replies l events) (sym (ap (λ l. slice_set l number put) out ∙ (set-set before number [] put ∙ ap (slice_set before number) same))) ∙
+    ap (λ l. between replies (slice_set taken number put) l) (sym is)

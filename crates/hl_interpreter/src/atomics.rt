@@ -104,7 +104,8 @@ fn atomic_word(
             let at = byte_offset(offset, 0);
             asks_word(run, buffer_atomic(slot, index, at, kind, compare, word), state)
         }
-        Holder::Variable(_) | Holder::Constant(_) => Ok(0),
+        Holder::Variable(_) => Ok(0),
+        Holder::Constant(_) => Ok(0),
     }
 }
 

@@ -31,7 +31,7 @@ loop-number-preserved c =
     done-turn (part_of (context_of context) holder c.args.offset) (zip letters words) _ i (letter, word) s t
     (zipped-next letters words i letter word (drop-next letters i letter (omega arith) (get_or_default letters i 0 letter (omega arith))) (drop-next words i word (omega arith) (get_or_default words i 0 word (omega arith))))
     c.loop-number.invariant
-    (ap no_value (ap (λ at. write_words (context_of context) holder at (word ∷ []) s) (sym (c.wrapping_add-at.ensures ∙ ap (wrapping_add c.args.offset) c.from.ensures)) ∙ c.in_ok-write_words.ensures))
+    (ap no_value (ap (λ at. write_words (context_of context) holder at (word ∷ []) s) (sym (ap (wrapping_add c.args.offset) c.from.ensures)) ∙ c.in_ok-write_words.ensures))
 
 pub returns-in_err-write_words : goal.returns-in_err-write_words
 returns-in_err-write_words c =
@@ -50,7 +50,7 @@ returns-in_err-write_words c =
     (zipped-next letters words i letter word (drop-next letters i letter (omega arith) (get_or_default letters i 0 letter (omega arith))) (drop-next words i word (omega arith) (get_or_default words i 0 word (omega arith))))
     c.loop-number.invariant
     (stops effect effect e t _ (λ _ u. goes_with [] u)
-    (same effect (Err e) t _ _ (ap (λ at. write_words (context_of context) holder at (word ∷ []) s) (c.wrapping_add-at.ensures ∙ ap (wrapping_add c.args.offset) c.from.ensures)) c.in_err-write_words.ensures)))
+    (same effect (Err e) t _ _ (ap (λ at. write_words (context_of context) holder at (word ∷ []) s) (ap (wrapping_add c.args.offset) c.from.ensures)) c.in_err-write_words.ensures)))
 
 pub returns : goal.returns
 returns c =

@@ -22,7 +22,7 @@ returns-in_ok-words-in-One c =
     ap (λ l. goes_with l s) (ap (λ k. map (plain_one c.in-One.one k) c.args.words.now) (sym c.component_kind.ensures) ∙ sym c.in_ok-words-in-One.ensures)
 
 pub returns-in_err-words-in-Judge : goal.returns-in_err-words-in-Judge
-returns-in_err-words-in-Judge c = memory-exit (λ w. w) c.from_residual-in-Judge.result _ _ c.from_residual-in-Judge.ensures.1
+returns-in_err-words-in-Judge c = memory-exit (λ w. w) c.from_residual-in_err-words-in-Judge.result _ _ c.from_residual-in_err-words-in-Judge.ensures.1
 
 pub returns-in_ok-words-in-Judge : goal.returns-in_ok-words-in-Judge
 returns-in_ok-words-in-Judge c =

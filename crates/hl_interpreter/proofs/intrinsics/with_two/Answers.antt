@@ -1,4 +1,4 @@
-use Rattle.std.proofs.Common.{◌∙◌, [], ◌∷◌, ap, sym}
+use Rattle.std.proofs.Common.{◌∙◌, [], ◌∷◌, ap, slice_index, sym}
 use Rattle.hl_meaning.specs.Views.{plain_ty}
 use Rattle.hl_source.specs.Intrinsics.{wave_words, worked}
 use Rattle.hl_source.specs.Operations.{component_kind, map_2}
@@ -26,7 +26,7 @@ returns-in-WaveAt c =
     let wave = c.in-WaveAt.wave in
     let k = c.component_kind-in-WaveAt.result in
     same (λ w. w) c.wave_words.result _ _ _
-    (ap (λ n. wave_words wave n k words s) c.word_at-lane.ensures ∙ (ap (λ kind. wave_words wave _ kind words s) c.component_kind-in-WaveAt.ensures ∙
+    (ap (λ n. wave_words wave n k words s) c.word_at-lane.ensures ∙ (ap (λ kind. wave_words wave (slice_index c.args.others.now 0) kind words s) c.component_kind-in-WaveAt.ensures ∙
     sym (ap (λ w. worked (run_context c.args.run.now) (plain_work w) (plain_ty c.args.ty.now) (words ∷ c.args.others.now ∷ []) s) c.in-WaveAt.is)))
     c.wave_words.ensures
 

@@ -1,5 +1,5 @@
 -- Words that are there or not, and words of variables that are written.
-use Rattle.std.proofs.Common.{◌≡◌, ◌∙◌, refl, sym, ap, subst, ℕ, zero, suc, ◌<◌, ◌≤◌, ◌==◌, true, false, if◌then◌else◌, List, [], ◌∷◌, get_or, length, slice_get, slice_set, Result, Ok, Err, arith}
+use Rattle.std.proofs.Common.{◌≡◌, ◌∙◌, refl, sym, ap, subst, ℕ, zero, suc, ◌<◌, ◌≤◌, ◌==◌, true, false, if◌then◌else◌, List, [], ◌∷◌, get_or, length, slice_set, Err, arith}
 use Rattle.std.proofs.lemmas.Bool.{eqb-true, false≢true, le-ltb, lt-ltb}
 use Rattle.std.specs.List.{zip}
 use Rattle.lane_core.specs.Words.{wrapping_add}

@@ -1,5 +1,5 @@
 -- The exits of functions whose calls stop.
-use Rattle.std.proofs.Common.{◌≡◌, ◌∙◌, ap, subst, sym, ℕ, List, [], Result, Ok, Err}
+use Rattle.std.proofs.Common.{◌≡◌, subst, sym, ℕ, List, [], Result, Ok, Err}
 use Rattle.std.specs.Result.{IsErrAnd}
 use Rattle.lane_core.specs.declared.event.Asked.{Asked}
 use Rattle.lane_core.specs.declared.event.Asked.TheVariants.{Fault}

@@ -1,12 +1,11 @@
 -- Words of buffers, four at once.
-use Rattle.std.proofs.Common.{◌≡◌, ◌∙◌, refl, sym, ap, ℕ, ◌*◌, ◌<◌, List, [], ◌∷◌, ◌++◌, length, replicate, slice_index, take, Result, Ok, Err, arith}
+use Rattle.std.proofs.Common.{◌≡◌, ◌∙◌, refl, sym, ap, ℕ, ◌*◌, ◌<◌, List, [], ◌∷◌, ◌++◌, length, replicate, slice_index, take, Err, arith}
 use Rattle.std.specs.Int.{div_ceil}
 use Rattle.std.specs.List.{concat}
 use Rattle.lane_core.specs.declared.event.Event.TheVariants.{BufferStore}
 use Rattle.lane_core.specs.declared.event.Slot.{Slot}
 use Rattle.hl_source.specs.State.{Progress, State, after, asks, ends_at, goes_with}
 use Rattle.hl_interpreter.specs.declared.run.Stop.{Stop}
-use Rattle.hl_interpreter.specs.declared.run.Stop.TheVariants.{Ends, Memory}
 use Rattle.hl_interpreter.specs.Runs.{Meets}
 use Rattle.hl_interpreter.proofs.Loops.{flat}
 use Rattle.hl_interpreter.proofs.Meeting.{same, stops}

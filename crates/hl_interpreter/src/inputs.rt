@@ -31,9 +31,15 @@ fn dispatch_thread(threads: [u32; 3], lane: &LanePlace) -> [u32; 3]
     ensures { result ≡ map wrapped (components (dispatch_thread (grid_of threads) (lane_of lane.now).group (lane_of lane.now).thread)) }
 {
     [
-        lane.group[0].wrapping_mul(threads[0]).wrapping_add(lane.thread[0]),
-        lane.group[1].wrapping_mul(threads[1]).wrapping_add(lane.thread[1]),
-        lane.group[2].wrapping_mul(threads[2]).wrapping_add(lane.thread[2]),
+        lane.group[0]
+            .wrapping_mul(threads[0])
+            .wrapping_add(lane.thread[0]),
+        lane.group[1]
+            .wrapping_mul(threads[1])
+            .wrapping_add(lane.thread[1]),
+        lane.group[2]
+            .wrapping_mul(threads[2])
+            .wrapping_add(lane.thread[2]),
     ]
 }
 
@@ -61,9 +67,7 @@ fn components_of(
     ensures { IfOk result (λ words. words ≡ map wrapped (semantic_components (grid_of threads) (lane_of lane.now) (Some semantic))) }
 {
     match semantic {
-        Semantic::DispatchThreadId => {
-            Words::from_slice(alloc, &dispatch_thread(threads, lane))
-        }
+        Semantic::DispatchThreadId => { Words::from_slice(alloc, &dispatch_thread(threads, lane)) }
         Semantic::GroupId => place_words(alloc, lane.group),
         Semantic::GroupThreadId => place_words(alloc, lane.thread),
         Semantic::GroupIndex => one_word(alloc, flat_index(threads, lane.thread)),
@@ -96,16 +100,16 @@ fn parameter_count(function: &FunctionDef, parameter: &Parameter) -> usize
 }
 
 /// The words of a parameter of the entry: the first components of its input.
-fn input_words(
-    run: &Run,
-    function: &FunctionDef,
-    parameter: &Parameter,
-) -> Result<Words, NoMemory>
+fn input_words(run: &Run, function: &FunctionDef, parameter: &Parameter) -> Result<Words, NoMemory>
     ensures { IfOk result (λ words. words ≡ input_words (plain_program run.now.program.now) (lane_of run.now.lane.now) (map plain_variable function.now.variables) parameter.now) }
 {
     let threads = run.program.threads;
     let words = semantic_words(run.alloc, threads, run.lane, parameter.semantic)?;
-    first_words(run.alloc, words.as_slice(), parameter_count(function, parameter))
+    first_words(
+        run.alloc,
+        words.as_slice(),
+        parameter_count(function, parameter),
+    )
 }
 
 /// The words of each parameter of a function as the entry.

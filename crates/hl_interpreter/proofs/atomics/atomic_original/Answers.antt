@@ -1,11 +1,10 @@
-use Rattle.std.proofs.Common.{◌∙◌, ap, sym, slice_index}
-use Rattle.hl_meaning.specs.Views.{plain_location, plain_target}
+use Rattle.std.proofs.Common.{◌∙◌, ap, sym}
+use Rattle.hl_meaning.specs.Views.{plain_target}
 use Rattle.hl_meaning.proofs.Plain.{plain_target-Bytes, plain_target-Place}
 use Rattle.hl_source.specs.Expressions.{atomic_original}
 use Rattle.hl_source.specs.Memory.{atomic_word, buffer_atomic}
 use Rattle.hl_source.specs.Offsets.{Place, slot_of}
 use Rattle.hl_source.specs.State.{asks_word}
-use Rattle.hl_interpreter.specs.HeldPlaces.{plain_place}
 use Rattle.hl_interpreter.specs.Runs.{context_of, state_of}
 use Rattle.hl_interpreter.proofs.Exits.{memory-exit}
 use Rattle.hl_interpreter.proofs.Meeting.{same}

@@ -1,4 +1,4 @@
-use Rattle.std.proofs.Common.{◌∙◌, [], ◌∷◌, ap, sym}
+use Rattle.std.proofs.Common.{[], ◌∷◌, ap, sym}
 use Rattle.hl_meaning.specs.Views.{plain_maybe_location}
 use Rattle.hl_source.specs.Expressions.{write_if}
 use Rattle.hl_interpreter.specs.Runs.{context_of, state_of}

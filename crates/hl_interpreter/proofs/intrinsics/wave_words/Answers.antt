@@ -1,4 +1,4 @@
-use Rattle.std.proofs.Common.{◌≡◌, ◌∙◌, ◌+◌, ap, drop, get_or, sym}
+use Rattle.std.proofs.Common.{◌∙◌, ◌+◌, ap, drop, get_or, sym}
 use Rattle.std.proofs.lemmas.List.{get_or_default}
 use Rattle.hl_source.specs.Intrinsics.{wave_word, wave_words}
 use Rattle.hl_source.specs.Operations.{word_as}

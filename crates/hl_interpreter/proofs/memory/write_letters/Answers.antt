@@ -1,4 +1,4 @@
-use Rattle.std.proofs.Common.{[], ap, sym}
+use Rattle.std.proofs.Common.{sym}
 use Rattle.hl_interpreter.specs.HeldPlaces.{plain_holder}
 use Rattle.hl_interpreter.specs.Runs.{context_of, state_of}
 use Rattle.hl_interpreter.proofs.Exits.{effect}

@@ -1,4 +1,4 @@
-use Rattle.std.proofs.Common.{◌∙◌, [], ap, sym}
+use Rattle.std.proofs.Common.{ap}
 use Rattle.hl_source.specs.Memory.{write_letters}
 use Rattle.hl_source.specs.Offsets.{Place}
 use Rattle.hl_interpreter.specs.Runs.{context_of, state_of}

@@ -1,4 +1,3 @@
-use Rattle.std.proofs.Common.{◌≡◌, ◌∙◌, ℕ, [], ap, length, sym}
 use Rattle.lane_core.specs.declared.event.Asked.TheVariants.{Fault}
 use Rattle.lane_core.specs.declared.event.LaneFault.TheVariants.{OutOfBounds}
 use Rattle.hl_interpreter.proofs.Cells.{none-written, nothing-written}

@@ -1,4 +1,4 @@
-use Rattle.std.proofs.Common.{[], refl}
+use Rattle.std.proofs.Common.{refl}
 use Rattle.lane_core.specs.declared.event.Asked.TheVariants.{Fault}
 use Rattle.lane_core.specs.declared.event.LaneFault.TheVariants.{OutOfBounds}
 use Rattle.hl_source.specs.State.{with_variable}

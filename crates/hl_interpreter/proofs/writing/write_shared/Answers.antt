@@ -1,4 +1,4 @@
-use Rattle.std.proofs.Common.{◌≡◌, ◌∙◌, ℕ, [], Err, ap, arith, get_or, length, sym}
+use Rattle.std.proofs.Common.{◌∙◌, ℕ, Err, ap, arith, get_or, length, sym}
 use Rattle.std.proofs.lemmas.List.{get_or_default}
 use Rattle.std.specs.List.{zip}
 use Rattle.lane_core.specs.declared.event.Event.TheVariants.{SharedStore}

@@ -2,7 +2,7 @@ use Rattle.std.proofs.Common.{◌∙◌, [], Err, ap, sym}
 use Rattle.lane_core.specs.declared.event.Asked.TheVariants.{Fault}
 use Rattle.lane_core.specs.declared.event.Event.TheVariants.{SharedStore}
 use Rattle.lane_core.specs.declared.event.LaneFault.TheVariants.{OutOfBounds}
-use Rattle.hl_source.specs.Memory.{cell, within}
+use Rattle.hl_source.specs.Memory.{cell}
 use Rattle.hl_source.specs.State.{asks, goes_with, no_value}
 use Rattle.hl_interpreter.specs.Runs.{state_of}
 use Rattle.hl_interpreter.proofs.Cells.{within-in, within-out}

@@ -1,6 +1,6 @@
-use Rattle.std.proofs.Common.{◌≡◌, ◌∙◌, ◌<◌, [], ap, arith, length, sym}
+use Rattle.std.proofs.Common.{◌∙◌, ◌<◌, [], ap, arith, length, sym}
 use Rattle.std.proofs.lemmas.List.{take_at}
-use Rattle.hl_source.specs.State.{State, goes_with, with_variable}
+use Rattle.hl_source.specs.State.{goes_with, with_variable}
 use Rattle.hl_interpreter.specs.Runs.{state_of}
 use Rattle.hl_interpreter.proofs.Cells.{exchange-kept, put-back, same-exchange}
 use Rattle.hl_interpreter.proofs.Exits.{effect, memory-exit, stop-exit}

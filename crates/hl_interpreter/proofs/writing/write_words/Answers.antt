@@ -1,4 +1,4 @@
-use Rattle.std.proofs.Common.{[], ap, sym}
+use Rattle.std.proofs.Common.{ap, sym}
 use Rattle.hl_source.specs.Memory.{write_words}
 use Rattle.hl_interpreter.specs.HeldPlaces.{plain_holder}
 use Rattle.hl_interpreter.specs.Runs.{context_of, state_of}

@@ -1,5 +1,5 @@
 -- The exits of functions whose calls stop.
-use Rattle.std.proofs.Common.{◌≡◌, ◌∙◌, ap, subst, sym, Result, Ok, Err}
+use Rattle.std.proofs.Common.{◌≡◌, subst, sym, ℕ, List, [], Result, Ok, Err}
 use Rattle.std.specs.Result.{IsErrAnd}
 use Rattle.lane_core.specs.declared.event.Asked.{Asked}
 use Rattle.lane_core.specs.declared.event.Asked.TheVariants.{Fault}
@@ -9,6 +9,10 @@ use Rattle.hl_source.specs.State.{Progress, State, ends_at, faults}
 use Rattle.hl_interpreter.specs.declared.run.Stop.{Stop}
 use Rattle.hl_interpreter.specs.declared.run.Stop.TheVariants.{Ends, Memory}
 use Rattle.hl_interpreter.specs.Runs.{Meets}
+
+-- what a call gives that is done for its effect
+abbrev pub effect : Unit {0} → List ℕ
+effect _ = []
 
 -- memory was refused
 pub memory-err : {A C : Type 0} (view : A → C) (e : Stop) (s : State) (p : Progress C) → e ≡ Memory → Meets view (Err e) s p

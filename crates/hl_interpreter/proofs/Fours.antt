@@ -1,10 +1,11 @@
 -- Words of buffers, four at once.
-use Rattle.std.proofs.Common.{◌≡◌, ◌∙◌, refl, sym, ap, ℕ, ◌*◌, ◌<◌, List, [], ◌∷◌, ◌++◌, length, replicate, slice_index, take, Result, Ok, Err, arith}
+use Rattle.std.proofs.Common.{◌≡◌, ◌∙◌, refl, sym, ap, ℕ, ◌*◌, ◌<◌, List, [], ◌∷◌, ◌++◌, length, replicate, slice_index, take, Err, arith}
 use Rattle.std.specs.Int.{div_ceil}
 use Rattle.std.specs.List.{concat}
-use Rattle.hl_source.specs.State.{Progress, State, after, ends_at, goes_with}
+use Rattle.lane_core.specs.declared.event.Event.TheVariants.{BufferStore}
+use Rattle.lane_core.specs.declared.event.Slot.{Slot}
+use Rattle.hl_source.specs.State.{Progress, State, after, asks, ends_at, goes_with}
 use Rattle.hl_interpreter.specs.declared.run.Stop.{Stop}
-use Rattle.hl_interpreter.specs.declared.run.Stop.TheVariants.{Ends, Memory}
 use Rattle.hl_interpreter.specs.Runs.{Meets}
 use Rattle.hl_interpreter.proofs.Loops.{flat}
 use Rattle.hl_interpreter.proofs.Meeting.{same, stops}
@@ -39,3 +40,9 @@ cut-goes count p words s e = sym (cut-flat count p) ∙ ap (λ q. after q (λ wo
 
 pub cut-stops : {A B : Type 0} (view : A → List ℕ) (other : B → List ℕ) (count : ℕ) (p : Progress (List (List ℕ))) (e : Stop) (s : State) → Meets view (Err e) s (flat p) → Meets other (Err e) s (cut count p)
 cut-stops view other count p e s h = same other (Err e) s _ _ (cut-flat count p) (stops view other e s (flat p) (λ words t. goes_with (take count words) t) h)
+
+-- the event of a store
+pub store-event : (slot : Slot) (index offset : ℕ) (words : List ℕ) (count : ℕ) (four : List ℕ) (s : State) → count ≡ length words → four ≡ take 4 (words ++ replicate 4 0)
+    → asks (BufferStore slot index offset (length words) (take 4 (words ++ replicate 4 0))) s ≡ asks (BufferStore slot index offset count four) s
+store-event slot index offset words count four s e h =
+    ap (λ n. asks (BufferStore slot index offset n (take 4 (words ++ replicate 4 0))) s) (sym e) ∙ ap (λ l. asks (BufferStore slot index offset count l) s) (sym h)

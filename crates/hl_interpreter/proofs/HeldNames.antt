@@ -1,10 +1,8 @@
 -- What numbers name in programs that are held.
-use Rattle.std.proofs.Common.{◌≡◌, ◌∙◌, refl, sym, ap, ℕ, Bool, true, false, List, [], map, slice_get, Option, Some, None}
+use Rattle.std.proofs.Common.{◌≡◌, ◌∙◌, ap, ℕ, true, false, List, map, slice_get, Some, None}
 use Rattle.std.proofs.lemmas.Option.{slice_get-map}
-use Rattle.std.specs.Option.{option_map_or}
 use Rattle.std.specs.Prelude.{option_and_then, option_map, unwrap_or}
 use Rattle.hl_meaning.specs.declared.program.Constant.{Constant}
-use Rattle.hl_meaning.specs.declared.program.Member.{Member}
 use Rattle.hl_meaning.specs.declared.program.Resource.{Resource}
 use Rattle.hl_meaning.specs.declared.program.StructDef.{StructDef}
 use Rattle.hl_meaning.specs.declared.program.Variable.{Variable}

@@ -1,9 +1,6 @@
 -- Where steps that are held lead.
-use Rattle.std.proofs.Common.{◌≡◌, ◌∙◌, refl, sym, ap, subst, ℕ, zero, suc, ◌+◌, ◌<◌, ◌≤◌, List, [], ◌∷◌, ◌++◌, add-zero, append-nil, append_assoc, drop, get_or, length, map, slice_get, slice_index, slice_index_or, Option, Some, None, arith}
+use Rattle.std.proofs.Common.{◌≡◌, ◌∙◌, refl, sym, ap, subst, ℕ, ◌+◌, ◌<◌, ◌≤◌, List, [], ◌∷◌, ◌++◌, add-zero, append-nil, append_assoc, drop, get_or, length, slice_index, slice_index_or, None, arith}
 use Rattle.std.proofs.lemmas.List.{drop-drop, drop_all, get_or-drop}
-use Rattle.std.proofs.lemmas.Option.{slice_get-map}
-use Rattle.std.specs.Prelude.{option_and_then, option_map, unwrap_or}
-use Rattle.hl_meaning.specs.declared.ty.Kind.{Kind}
 use Rattle.hl_meaning.specs.declared.ty.HlType.{HlType}
 use Rattle.hl_meaning.specs.declared.ty.HlType.TheVariants.{Array, Struct}
 use Rattle.hl_meaning.specs.declared.expression.Arg.{Arg}
@@ -18,7 +15,7 @@ use Rattle.hl_meaning.specs.declared.expression.Expr.{Expr}
 use Rattle.hl_meaning.specs.Programs as plain
 use Rattle.hl_meaning.specs.Trees as form
 use Rattle.hl_meaning.specs.Trees.{PathPart, PathParts, an_expr, constant_root, element_root, shared_root, variable_root, index_part, member_part, more_parts, swizzle_part}
-use Rattle.hl_meaning.specs.Types.{Ty, array_type, scalar_type, struct_type}
+use Rattle.hl_meaning.specs.Types.{Ty, scalar_type}
 use Rattle.hl_meaning.specs.Views.{plain_expr, plain_form, plain_part, plain_parts, plain_ty}
 use Rattle.hl_meaning.proofs.Plain.{plain_expr-is, plain_form-Atomic, plain_form-Binary, plain_form-Build, plain_form-Call, plain_form-Choose, plain_form-Convert, plain_form-Intrinsic, plain_form-Method, plain_form-Pick, plain_form-Read, plain_form-Unary, plain_form-Write, plain_part-Index, plain_part-Member, plain_part-Swizzle, plain_ty-Array, plain_ty-Scalar, plain_ty-Struct, plain_ty-Vector, plain_ty-Void}
 use Rattle.hl_meaning.proofs.TypeLemmas.{type_cases}

@@ -3,12 +3,12 @@ use Rattle.std.proofs.Common.{◌≡◌, ◌∙◌, refl, sym, ap, ℕ, zero, su
 use Rattle.hl_meaning.specs.declared.ty.Kind.{Kind}
 use Rattle.hl_meaning.specs.declared.ty.Kind.TheVariants.{Uint}
 use Rattle.hl_meaning.specs.declared.ty.HlType.{HlType}
-use Rattle.hl_meaning.specs.declared.ty.HlType.TheVariants.{Array, Scalar, Struct, Vector}
+use Rattle.hl_meaning.specs.declared.ty.HlType.TheVariants.{Scalar, Vector}
 use Rattle.hl_meaning.specs.Layout.{kinds_of, repeated}
 use Rattle.hl_meaning.specs.Programs.{StructDef}
-use Rattle.hl_meaning.specs.Types.{Ty, array_type, component_count, is_scalar, scalar_type, struct_type, vector_type, void_type}
+use Rattle.hl_meaning.specs.Types.{Ty, array_type, component_count, is_scalar, scalar_type, struct_type, void_type}
 use Rattle.hl_meaning.specs.Views.{plain_ty}
-use Rattle.hl_meaning.proofs.Plain.{plain_ty-Array, plain_ty-Scalar, plain_ty-Struct, plain_ty-Vector, plain_ty-Void}
+use Rattle.hl_meaning.proofs.Plain.{plain_ty-Array, plain_ty-Struct, plain_ty-Vector, plain_ty-Void}
 use Rattle.hl_meaning.proofs.TypeLemmas.{type_cases}
 use Rattle.hl_source.specs.Operations.{component_kind}
 

@@ -1,11 +1,11 @@
 -- Values by component, as loops make them.
-use Rattle.std.proofs.Common.{◌≡◌, ◌⊎◌, inl, inr, ◌∙◌, refl, sym, ap, subst, ℕ, ◌+◌, ◌<◌, ◌≤◌, ◌==◌, false, min, if◌then◌else◌, List, [], ◌∷◌, ◌++◌, append-nil, append_assoc, drop, get_or, length, map, replicate, slice_index, take, Result, Ok, Err, arith}
+use Rattle.std.proofs.Common.{◌≡◌, ◌⊎◌, inl, inr, ◌∙◌, refl, sym, ap, ℕ, ◌+◌, ◌<◌, ◌≤◌, ◌==◌, false, min, if◌then◌else◌, List, [], ◌∷◌, ◌++◌, append-nil, append_assoc, drop, get_or, length, map, replicate, slice_index, take, Result, Ok, Err, arith}
 use Rattle.std.proofs.lemmas.Bool.{cases_lt, false≢true}
 use Rattle.lane_core.specs.declared.event.LaneFault.{LaneFault}
 use Rattle.hl_meaning.specs.declared.ty.Kind.{Kind}
 use Rattle.hl_meaning.specs.declared.ty.HlType.{HlType}
 use Rattle.hl_meaning.specs.declared.ty.HlType.TheVariants.{Scalar}
-use Rattle.hl_meaning.specs.Types.{component_count, is_scalar}
+use Rattle.hl_meaning.specs.Types.{component_count}
 use Rattle.hl_meaning.specs.Views.{plain_ty}
 use Rattle.hl_meaning.proofs.Plain.{plain_ty-Scalar}
 use Rattle.hl_source.specs.Operations.{all_ok, map_2, map_3, picked, resized}

@@ -1,8 +1,10 @@
 -- What intrinsic functions do that have other arguments than are given.
-use Rattle.std.proofs.Common.{◌≡◌, ◌≢◌, refl, ℕ, List, [], ◌∷◌}
+use Rattle.std.proofs.Common.{◌≡◌, refl, sym, ap, ℕ, ◌<◌, List, [], ◌∷◌}
+use Rattle.std.proofs.lemmas.Option.{slice_get_past}
+use Rattle.std.specs.Prelude.{unwrap_or}
 use Rattle.lane_core.specs.declared.event.WaveKind.{WaveKind}
 use Rattle.hl_meaning.specs.Types.{Ty}
-use Rattle.hl_source.specs.Intrinsics.{worked}
+use Rattle.hl_source.specs.Intrinsics.{own_form, work_of, worked, works}
 use Rattle.hl_source.specs.State.{Context, State, goes_with}
 use Rattle.hl_interpreter.specs.declared.works.Judgement.{Judgement}
 use Rattle.hl_interpreter.specs.declared.works.OneWork.{OneWork}
@@ -12,6 +14,10 @@ use Rattle.hl_interpreter.specs.declared.works.WaveWork.{WaveWork}
 use Rattle.hl_interpreter.specs.declared.works.Work.{Work}
 use Rattle.hl_interpreter.specs.declared.works.Work.TheVariants.{Barrier, Clamp, Judge, One, OwnForm, Tell, Two, Wave, WaveAlone, WaveAt, WaveFour}
 use Rattle.hl_interpreter.specs.HeldWorks.{plain_work}
+
+-- there are 46 intrinsic functions
+pub past-works : (number : ℕ) → 45 < number → own_form ≡ work_of number
+past-works number past = sym (ap (λ o. unwrap_or o own_form) (slice_get_past works number past))
 
 module _ (c : Context) (ty : Ty) (s : State) where
   pub none-other : (work : Work) → ((told : Told) → work ≡ Tell told → ⊥) → ((mode : ℕ) → work ≡ Barrier mode → ⊥) → ((kind : WaveKind) → work ≡ WaveAlone kind → ⊥) → worked c (plain_work work) ty [] s ≡ goes_with [] s

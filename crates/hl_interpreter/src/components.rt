@@ -94,11 +94,7 @@ pub(crate) fn converted(
 }
 
 /// Each word as a value of its own kind.
-pub(crate) fn words_by_kind(
-    alloc: Global,
-    kinds: &[Kind],
-    words: &[u32],
-) -> Result<Words, NoMemory>
+pub(crate) fn words_by_kind(alloc: Global, kinds: &[Kind], words: &[u32]) -> Result<Words, NoMemory>
     ensures { IfOk result (λ values. values ≡ map_2 word_as kinds.now words.now) }
 {
     let mut result = Words::new(alloc);

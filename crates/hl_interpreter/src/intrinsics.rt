@@ -275,14 +275,7 @@ pub(crate) fn worked(
     match arguments {
         [] => alone(run, work, ty, state),
         [words] => with_one(run, work, ty, words.as_slice(), state),
-        [words, others] => with_two(
-            run,
-            work,
-            ty,
-            words.as_slice(),
-            others.as_slice(),
-            state,
-        ),
+        [words, others] => with_two(run, work, ty, words.as_slice(), others.as_slice(), state),
         [words, low, high] => with_three(
             run,
             work,

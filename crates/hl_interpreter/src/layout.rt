@@ -44,11 +44,7 @@ fn product(length: u32, words: u32) -> Result<u32, NoMemory>
 ///
 /// # Errors
 /// `NoMemory` where memory is refused, as in each function below.
-pub(crate) fn kinds_of(
-    alloc: Global,
-    program: &Program,
-    ty: &HlType,
-) -> Result<Kinds, NoMemory>
+pub(crate) fn kinds_of(alloc: Global, program: &Program, ty: &HlType) -> Result<Kinds, NoMemory>
     ensures { IfOk result (λ kinds. kinds ≡ kinds_of (plain_structs program.now.structs) (plain_ty ty.now)) }
 {
     let structs = struct_kinds(alloc, program.structs.as_slice())?;
@@ -68,11 +64,7 @@ fn struct_kinds(alloc: Global, structs: &[StructDef]) -> Result<Sequence<Kinds>,
 }
 
 /// The kinds of the words of members, given those of each struct.
-fn member_kinds(
-    alloc: Global,
-    structs: &[Kinds],
-    members: &[Member],
-) -> Result<Kinds, NoMemory>
+fn member_kinds(alloc: Global, structs: &[Kinds], members: &[Member]) -> Result<Kinds, NoMemory>
     ensures { IfOk result (λ kinds. kinds ≡ member_kinds structs.now (map plain_member members.now)) }
 {
     let mut kinds = Sequence::new(alloc);

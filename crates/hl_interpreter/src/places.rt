@@ -17,7 +17,8 @@ use crate::operations::component_kind;
 use crate::run::{Context, Run};
 use base_core::{NoMemory, Sequence, Words};
 use hl_meaning::{
-    Constant, Expr, Form, HlType, Kind, Location, Member, PathPart, Program, Resource, Root, StructDef, Variable,
+    Constant, Expr, Form, HlType, Kind, Location, Member, PathPart, Program, Resource, Root,
+    StructDef, Variable,
 };
 use lane_core::Slot;
 use std::alloc::Global;
@@ -138,7 +139,11 @@ fn held_member<'a>(program: &'a Program, ty: &HlType, number: u32) -> Option<&'a
 {
     match ty {
         HlType::Struct(structure) => {
-            struct_member(program.structs.as_slice(), *structure as usize, number as usize)
+            struct_member(
+                program.structs.as_slice(),
+                *structure as usize,
+                number as usize,
+            )
         }
         _ => None,
     }
@@ -376,12 +381,7 @@ pub(crate) fn place_of<'a>(
 {
     let steps = indexes_of_steps(&location.root, indexes);
     let start = root_type(context, &location.root);
-    let at = steps_to(
-        context.run.program,
-        start,
-        location.parts.as_slice(),
-        steps,
-    )?;
+    let at = steps_to(context.run.program, start, location.parts.as_slice(), steps)?;
     Ok(Place {
         holder: holder_of(context.run, &location.root, indexes),
         at,

@@ -78,13 +78,7 @@ fn words_from(alloc: Global, words: &[u32], offset: u32, count: u32) -> Result<W
 }
 
 /// One word of a groupshared variable.
-fn shared_word(
-    run: &Run,
-    number: u32,
-    size: u32,
-    at: u32,
-    state: &mut State,
-) -> Result<u32, Stop>
+fn shared_word(run: &Run, number: u32, size: u32, at: u32, state: &mut State) -> Result<u32, Stop>
     ensures { Meets (λ word. word) result (state_of run.now.replies.now state.new) (within at size (asks_word (SharedLoad (cell number at))) (state_of run.now.replies.now state.old)) }
 {
     if at >= size {

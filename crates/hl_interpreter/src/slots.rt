@@ -71,11 +71,7 @@ fn free_register(
 }
 
 /// Adds the registers of a class that buffers give.
-fn add_given(
-    all: &[Resource],
-    class: u8,
-    taken: &mut Sequence<u32>,
-) -> Result<(), NoMemory>
+fn add_given(all: &[Resource], class: u8, taken: &mut Sequence<u32>) -> Result<(), NoMemory>
     ensures { OnOk result (taken.new ≡ taken.old ++ filter_map (given_register class) (map plain_resource all.now)) }
 {
     for resource in all {
@@ -85,11 +81,7 @@ fn add_given(
 }
 
 /// Adds the registers of a class that earlier buffers have.
-fn add_taken(
-    earlier: &[Slot],
-    class: u8,
-    taken: &mut Sequence<u32>,
-) -> Result<(), NoMemory>
+fn add_taken(earlier: &[Slot], class: u8, taken: &mut Sequence<u32>) -> Result<(), NoMemory>
     ensures { OnOk result (taken.new ≡ taken.old ++ filter_map (slot_register class) earlier.now) }
 {
     for slot in earlier {

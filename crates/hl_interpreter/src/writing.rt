@@ -1,6 +1,6 @@
 //! How the words of places are written.
 
-ghost use Rattle.std.specs.Prelude.{◌≡◌, ℕ, ◌^◌, ◌<◌, ◌≤◌, List, length, zip};
+ghost use Rattle.std.specs.Prelude.{◌≡◌, ℕ, ◌^◌, ◌<◌, ◌≤◌, List, [], length, slice_get, slice_set, unwrap_or, zip};
 ghost use Rattle.lane_core.specs.declared.event.Reply.{Reply};
 ghost use Rattle.lane_core.specs.declared.event.Event.TheVariants.{SharedStore};
 ghost use Rattle.hl_source.specs.Memory.{cell, shared_size, within, word_offsets, write_variable_word, write_words};
@@ -61,6 +61,16 @@ fn set_nothing(words: &[u32]) -> Result<(), Stop>
     }
 }
 
+/// Takes the words of a variable out.
+fn take_variable(alloc: Global, number: usize, state: &mut State) -> Vec<u32>
+    requires { number < length state.old.variables.items }
+    ensures value { result.items ≡ unwrap_or (slice_get state.old.variables.items number) [] }
+    ensures variables { state.new.variables.items ≡ slice_set state.old.variables.items number [] }
+    ensures events { state.new.events ≡ state.old.events }
+{
+    mem::replace(&mut state.variables[number], Words::new(alloc)).into_vec()
+}
+
 /// Words of a variable written.
 ///
 /// # Errors
@@ -80,8 +90,7 @@ fn write_variable(
     if number >= state.variables.len() {
         return set_nothing(words);
     }
-    let before = mem::replace(&mut state.variables[number], Words::new(alloc));
-    let mut variable = before.into_vec();
+    let mut variable = take_variable(alloc, number, state);
     set_words(variable.as_mut_slice(), offset, words)?;
     state.variables[number] = Sequence::from_vec(variable)?;
     Ok(())

@@ -1,4 +1,4 @@
-use Rattle.std.proofs.Common.{◌∙◌, ap, sym, take}
+use Rattle.std.proofs.Common.{◌∙◌, ap, take}
 use Rattle.std.proofs.lemmas.Result.{IfOk-weaker}
 use Rattle.hl_interpreter.proofs.inputs.input_words.Goals as goal
 

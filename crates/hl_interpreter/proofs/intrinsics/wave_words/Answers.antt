@@ -1,4 +1,4 @@
-use Rattle.std.proofs.Common.{◌≡◌, ◌∙◌, ◌+◌, ap, drop, get_or, sym}
+use Rattle.std.proofs.Common.{◌∙◌, ◌+◌, ap, drop, get_or, sym}
 use Rattle.std.proofs.lemmas.List.{get_or_default}
 use Rattle.hl_source.specs.Intrinsics.{wave_word, wave_words}
 use Rattle.hl_source.specs.Operations.{word_as}
@@ -12,7 +12,7 @@ use Rattle.hl_interpreter.proofs.intrinsics.wave_words.Goals as goal
 
 pub loop-operand-init : goal.loop-operand-init
 loop-operand-init c =
-    let whole = wave_words c.args.wave c.args.lane c.args.kind c.args.words.now (state_of c.args.run.now.replies.now c.args.state.old) in
+    let whole = wave_words c.args.wave c.args.lane c.args.kind c.args.words.now (state_of c.args.run.now.replies.now c.args.state.now) in
     behind-none whole ∙ ap (λ l. behind l whole) (sym c.new-found.ensures)
 
 pub loop-operand-preserved : goal.loop-operand-preserved

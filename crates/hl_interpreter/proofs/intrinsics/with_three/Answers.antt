@@ -1,7 +1,7 @@
 use Rattle.std.proofs.Common.{◌∙◌, [], ◌∷◌, ap, sym}
 use Rattle.hl_meaning.specs.Views.{plain_ty}
 use Rattle.hl_source.specs.Intrinsics.{clamped, worked}
-use Rattle.hl_source.specs.Operations.{component_kind, map_3}
+use Rattle.hl_source.specs.Operations.{map_3}
 use Rattle.hl_source.specs.State.{goes_with}
 use Rattle.hl_interpreter.specs.HeldWorks.{plain_work}
 use Rattle.hl_interpreter.specs.Runs.{run_context}

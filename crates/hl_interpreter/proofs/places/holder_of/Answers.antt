@@ -1,4 +1,4 @@
-use Rattle.std.proofs.Common.{◌∙◌, ap, sym, slice_index}
+use Rattle.std.proofs.Common.{◌∙◌, ap, sym}
 use Rattle.hl_meaning.specs.Views.{plain_root}
 use Rattle.hl_meaning.proofs.Plain.{plain_root-Constant, plain_root-Element, plain_root-Shared, plain_root-Variable}
 use Rattle.hl_source.specs.Offsets.{holder_of, in_element, slot_of}

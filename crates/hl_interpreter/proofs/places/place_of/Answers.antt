@@ -2,7 +2,7 @@ use Rattle.std.proofs.Common.{◌≡◌, ◌∙◌, ap, refl, sym}
 use Rattle.hl_meaning.specs.Types.{Ty}
 use Rattle.hl_meaning.specs.Views.{plain_parts, plain_root, plain_structs}
 use Rattle.hl_meaning.proofs.Plain.{plain_location-is}
-use Rattle.hl_source.specs.Offsets.{Reached, indexes_of_steps, place_of, reached, start_of, type_of_root}
+use Rattle.hl_source.specs.Offsets.{indexes_of_steps, place_of, reached, start_of, type_of_root}
 use Rattle.hl_interpreter.specs.HeldPlaces.{plain_reached, plain_type}
 use Rattle.hl_interpreter.specs.Runs.{context_of, run_context}
 use Rattle.hl_interpreter.proofs.HeldPaths.{holder-same, place-parts}

@@ -1,7 +1,7 @@
-use Rattle.std.proofs.Common.{◌∙◌, ap, arith, sym}
+use Rattle.std.proofs.Common.{ap, arith}
 use Rattle.hl_meaning.specs.Views.{plain_parts, plain_structs}
-use Rattle.hl_source.specs.Offsets.{reached, start_of}
-use Rattle.hl_interpreter.specs.HeldPlaces.{plain_reached, plain_type}
+use Rattle.hl_source.specs.Offsets.{reached}
+use Rattle.hl_interpreter.specs.HeldPlaces.{plain_reached}
 use Rattle.hl_interpreter.proofs.HeldPaths.{steps-end, steps-turn}
 use Rattle.hl_interpreter.proofs.places.steps_to.Goals as goal
 

@@ -1,4 +1,4 @@
-use Rattle.std.proofs.Common.{◌≡◌, ◌∙◌, ◌+◌, ℕ, ap, arith, drop, sym}
+use Rattle.std.proofs.Common.{◌≡◌, ◌∙◌, ◌+◌, ℕ, Err, ap, arith, drop, sym}
 use Rattle.lane_core.specs.declared.event.Event.TheVariants.{SharedLoad}
 use Rattle.lane_core.specs.Words.{wrapping_add}
 use Rattle.hl_source.specs.Memory.{cell, shared_size, within, word_offsets}
@@ -17,7 +17,7 @@ returns-in_err-size c = memory-exit (λ w. w) c.from_residual.result _ _ c.from_
 
 pub loop-more-init : goal.loop-more-init
 loop-more-init c =
-    let whole = each (part_in c.args.number (shared_size (run_context c.args.run.now) c.args.number)) (word_offsets c.args.offset c.args.count) (state_of c.args.run.now.replies.now c.args.state.old) in
+    let whole = each (part_in c.args.number (shared_size (run_context c.args.run.now) c.args.number)) (word_offsets c.args.offset c.args.count) (state_of c.args.run.now.replies.now c.args.state.now) in
     behind-none whole ∙ ap (λ l. behind l whole) (sym c.new-found.ensures)
 
 pub loop-more-preserved : goal.loop-more-preserved
@@ -29,8 +29,7 @@ loop-more-preserved c =
     let s = state_of c.args.run.now.replies.now c.loop-more.state in
     let t = state_of c.args.run.now.replies.now c.shared_word.new.state in
     gathered-turn part xs _ i (wrapping_add c.args.offset i) c.loop-more.found c.in_ok-word.word s t (offset-next c.args.offset c.args.count i c.loop-more-test.true) c.loop-more.invariant
-    (ap (λ n. part_in number n (wrapping_add c.args.offset i) s) (sym c.in_ok-size.ensures) ∙
-    (ap (λ at. part_in number c.in_ok-size.size at s) (sym c.wrapping_add.ensures) ∙ c.in_ok-word.ensures)) ∙
+    (ap (λ n. part_in number n (wrapping_add c.args.offset i) s) (sym c.in_ok-size.ensures) ∙ c.in_ok-word.ensures) ∙
     ap (λ l. behind l (each part (drop (i + 1) xs) t)) (sym c.in_ok-push.ensures.ok)
 
 pub returns-in_err-word : goal.returns-in_err-word
@@ -43,7 +42,7 @@ returns-in_err-word c =
     let t = state_of c.args.run.now.replies.now c.shared_word.new.state in
     stop-exit (λ w. w) c.from_residual-in_err-word.result c.in_err-word.field-0.0 t _ c.from_residual-in_err-word.ensures.1
     (gathered-stops part xs _ (λ w. w) (λ w. w) i (wrapping_add c.args.offset i) c.loop-more.found c.in_err-word.field-0.0 s t (offset-next c.args.offset c.args.count i c.loop-more-test.true) c.loop-more.invariant
-    (same (λ w. w) _ t _ _ (ap (λ at. part_in number c.in_ok-size.size at s) c.wrapping_add.ensures ∙ ap (λ n. part_in number n (wrapping_add c.args.offset i) s) c.in_ok-size.ensures) c.in_err-word.ensures))
+    (same (λ w. w) (Err c.in_err-word.field-0.0) t _ _ (ap (λ n. part_in number n (wrapping_add c.args.offset i) s) c.in_ok-size.ensures) c.in_err-word.ensures))
 
 pub returns-in_err-push : goal.returns-in_err-push
 returns-in_err-push c = memory-exit (λ w. w) c.from_residual-in_err-push.result _ _ c.from_residual-in_err-push.ensures.1

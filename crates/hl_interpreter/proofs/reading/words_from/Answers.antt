@@ -4,7 +4,7 @@ use Rattle.hl_source.specs.Memory.{word_of, word_offsets}
 use Rattle.hl_source.specs.State.{each}
 use Rattle.hl_interpreter.proofs.Exits.{memory-exit, stop-exit}
 use Rattle.hl_interpreter.proofs.Loops.{gathered-end, gathered-stops, gathered-turn, length-offsets, offset-next}
-use Rattle.hl_interpreter.proofs.Meeting.{behind, behind-none, same}
+use Rattle.hl_interpreter.proofs.Meeting.{behind, behind-none}
 use Rattle.hl_interpreter.proofs.reading.words_from.Goals as goal
 
 pub loop-more-init : goal.loop-more-init
@@ -18,7 +18,7 @@ loop-more-preserved c = λ s.
     let xs = word_offsets c.args.offset c.args.count in
     let i = c.loop-more.more in
     gathered-turn part xs (each part xs s) i (wrapping_add c.args.offset i) c.loop-more.found c.in_ok-word.word s s (offset-next c.args.offset c.args.count i c.loop-more-test.true) (c.loop-more.invariant s)
-    (ap (λ at. part at s) (sym c.wrapping_add.ensures) ∙ c.in_ok-word.ensures s) ∙
+    (c.in_ok-word.ensures s) ∙
     ap (λ l. behind l (each part (drop (i + 1) xs) s)) (sym c.in_ok-push.ensures.ok)
 
 pub returns-in_err-word : goal.returns-in_err-word
@@ -28,7 +28,7 @@ returns-in_err-word c = λ s.
     let i = c.loop-more.more in
     stop-exit (λ w. w) c.from_residual.result c.in_err-word.field-0.0 s (each part xs s) c.from_residual.ensures.1
     (gathered-stops part xs (each part xs s) (λ w. w) (λ w. w) i (wrapping_add c.args.offset i) c.loop-more.found c.in_err-word.field-0.0 s s (offset-next c.args.offset c.args.count i c.loop-more-test.true) (c.loop-more.invariant s)
-    (same (λ w. w) _ s _ _ (ap (λ at. part at s) c.wrapping_add.ensures) (c.in_err-word.ensures s)))
+    (c.in_err-word.ensures s))
 
 pub returns-in_err-push : goal.returns-in_err-push
 returns-in_err-push c = λ s. memory-exit (λ w. w) c.from_residual-in_err-push.result s _ c.from_residual-in_err-push.ensures.1

@@ -1,4 +1,4 @@
-use Rattle.std.proofs.Common.{◌≡◌, ◌∙◌, ◌++◌, ap, map}
+use Rattle.std.proofs.Common.{◌∙◌, ◌++◌, ap, map}
 use Rattle.std.specs.Prelude.{filter_map}
 use Rattle.hl_meaning.specs.Slots.{given_register, least_free, slot_register}
 use Rattle.hl_meaning.specs.Views.{plain_resource}

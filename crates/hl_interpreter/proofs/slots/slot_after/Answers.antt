@@ -1,4 +1,4 @@
-use Rattle.std.proofs.Common.{◌≡◌, ◌∙◌, ℕ, ap, sym, map}
+use Rattle.std.proofs.Common.{◌∙◌, ℕ, ap, sym, map}
 use Rattle.lane_core.specs.declared.event.Slot.{Slot}
 use Rattle.hl_meaning.specs.Slots.{slot_after}
 use Rattle.hl_meaning.specs.Views.{plain_resource}

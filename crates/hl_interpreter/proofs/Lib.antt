@@ -1,5 +1,6 @@
 pub mod Arms
 pub mod Asking
+pub mod Assigning
 pub mod Branching
 pub mod Callees
 pub mod Calls
@@ -18,6 +19,7 @@ pub mod Meeting
 pub mod Registers
 pub mod Running
 pub mod Semantics
+pub mod Skipping
 pub mod Turns
 pub mod Values
 pub mod Weights

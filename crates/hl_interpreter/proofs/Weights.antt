@@ -1,12 +1,13 @@
 -- How much statements and functions hold, by which their runs end.
-use Rattle.std.proofs.Common.{◌≡◌, ◌∙◌, sym, ap, ℕ, suc, ◌+◌, List, sum, sum_by, Option, None, Some}
-use Rattle.std.proofs.lemmas.List.Sums.{sum-map}
+use Rattle.std.proofs.Common.{◌≡◌, ◌∙◌, sym, ap, ℕ, suc, ◌+◌, ◌<◌, ◌≤◌, List, drop, get_or, length, sum, sum_by, take, Option, None, Some, arith}
+use Rattle.std.proofs.lemmas.List.Sums.{sum-map, sum_by-cons, sum_by-take-drop}
 use Rattle.hl_meaning.specs.declared.expression.Expr.{Expr, size-Expr}
 use Rattle.hl_meaning.specs.declared.expression.Location.{Location, size-Location}
 use Rattle.hl_meaning.specs.declared.statement.Stmt.{Stmt, Stmt-F, fold-Stmt, fold-roll-Stmt}
 use Rattle.hl_meaning.specs.declared.statement.Stmt.TheVariants.{rolls-Block, rolls-Local, rolls-Run, rolls-If, rolls-For, rolls-While, rolls-Do, rolls-Return}
 use Rattle.hl_meaning.specs.declared.statement.Stmt.TheVariants as Stmt_variants
 use Rattle.hl_meaning.specs.declared.program.FunctionDef.{FunctionDef}
+use Rattle.hl_interpreter.proofs.Turns.{drop-next}
 
 abbrev pub expr_if : Option Expr → ℕ
 expr_if None = 0
@@ -85,3 +86,10 @@ stmt_weight-Do body cond = ap stmt_weight (sym (rolls-Do body cond)) ∙ fold-ro
 pub stmt_weight-Return : (value : Option Expr) → stmt_weight (Stmt_variants.Return value) ≡ suc (expr_if value)
 unfolding stmt_weight
 stmt_weight-Return value = ap stmt_weight (sym (rolls-Return value)) ∙ fold-roll-Stmt ℕ weight_step (Stmt-F.Return value)
+
+-- ---- of functions
+
+-- a function and those before it
+pub weight-within : (functions : List FunctionDef) (n : ℕ) (f : FunctionDef) → n < length functions → f ≡ get_or functions n f → weight_of (take n functions) + suc (stmts_weight f.body) ≤ weight_of functions
+weight-within functions n f within is =
+    omega (arith, sum_by-take-drop function_weight functions n, ap (sum_by function_weight) (drop-next functions n f within is), sum_by-cons function_weight f (drop (n + 1) functions))

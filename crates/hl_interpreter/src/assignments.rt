@@ -74,5 +74,5 @@ pub(crate) fn assigns(
     let before = read_if(context, op, to, indexes, state)?;
     let written = assigned(context.run, op, common, &to.ty, before.as_slice(), words)?;
     write_place(context, to, indexes, written.as_slice(), state)?;
-    Ok(if old { before } else { written })
+    if old { Ok(before) } else { Ok(written) }
 }

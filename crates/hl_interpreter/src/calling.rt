@@ -1,6 +1,7 @@
 //! What a call takes from its place and what it leaves there.
 
-ghost use Rattle.std.specs.Prelude.{◌≡◌, ℕ, List, length};
+ghost use Rattle.std.specs.Prelude.{◌≡◌, ◌<◌, ℕ, List, get_or, length};
+ghost use Rattle.hl_meaning.specs.declared.program.Parameter.{Parameter};
 ghost use Rattle.hl_meaning.specs.Trees.{place_type};
 ghost use Rattle.hl_meaning.specs.Views.{plain_arg, plain_args, plain_location};
 ghost use Rattle.hl_source.specs.Expressions.{copies_out, parameters_of, starts_with, value_of_words};
@@ -45,6 +46,14 @@ pub(crate) fn parameters_of<'a>(context: &Context<'a>, function: u32) -> &'a [Pa
         Some(function) => function.parameters.as_slice(),
         None => &[],
     }
+}
+
+/// How the argument of a parameter is passed.
+pub(crate) fn copying_at(parameters: &[Parameter], at: usize) -> Copying
+    requires { at < length parameters.now }
+    ensures { (p : Parameter) → p ≡ get_or parameters.now at p → result ≡ p.copying }
+{
+    parameters[at].copying
 }
 
 /// The value of a parameter is written back, read as a value of the type of its place.

@@ -20,7 +20,7 @@ ghost use Rattle.hl_interpreter.specs.Runs.{Gives, Meets, callees_behind, contex
 use crate::assignments::assigns;
 use crate::atomics::{atomic_original, write_original};
 use crate::buffers::{load_four, store_four};
-use crate::calling::{copies_out, parameters_of, starts_with};
+use crate::calling::{copies_out, copying_at, parameters_of, starts_with};
 use crate::components::{
     binary_words, chosen_words, converted, first_words, one_word, unary_words, word_at,
 };
@@ -421,22 +421,18 @@ fn arguments(
     ensures both { IfOk result (λ passed. length passed.indexes ≡ length passed.starts) }
     ensures met { Meets operands_of result (state_of context.now.run.now.replies.now state.new) (arguments (context_of context.now) (plain_args args.now) parameters.now (state_of context.now.run.now.replies.now state.old)) }
 {
-    let mut passed = Passed {
-        indexes: Sequence::new(context.run.alloc),
-        starts: Sequence::new(context.run.alloc),
-    };
+    let mut indexes = Sequence::new(context.run.alloc);
+    let mut starts = Sequence::new(context.run.alloc);
     let items = args.as_slice();
     for at in 0..items.len().min(parameters.len()) {
-        let PassedArgument { indexes, start } = argument(
-            context,
-            parameters[at].copying,
-            &items[at],
-            state,
-        )?;
-        passed.indexes.push(indexes)?;
-        passed.starts.push(start)?;
+        let PassedArgument {
+            indexes: words,
+            start,
+        } = argument(context, copying_at(parameters, at), &items[at], state)?;
+        indexes.push(words)?;
+        starts.push(start)?;
     }
-    Ok(passed)
+    Ok(Passed { indexes, starts })
 }
 
 /// An argument of a call: an `in` argument is evaluated; of another one the indexes are evaluated, and an `inout` argument

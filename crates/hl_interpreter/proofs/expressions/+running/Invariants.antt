@@ -9,7 +9,7 @@ use Rattle.hl_meaning.specs.Trees.{do_stmt, while_stmt}
 use Rattle.hl_meaning.specs.Views.{plain_args, plain_expr, plain_exprs, plain_location, plain_parts, plain_stmt, plain_stmts}
 use Rattle.hl_source.specs.Expressions.{arguments, indexes, step_indexes, values}
 use Rattle.hl_source.specs.Statements.{does, does_all, tested_turn, testing_turn, turns}
-use Rattle.hl_interpreter.specs.Operands.{operands_of}
+use Rattle.hl_interpreter.specs.Operands.{interleaved}
 use Rattle.hl_interpreter.specs.Runs.{context_of, state_of}
 use Rattle.hl_interpreter.proofs.Meeting.{behind}
 use Rattle.hl_interpreter.proofs.Weights.{expr_if, place_if, stmt_if, stmt_weight, stmts_weight, weight_of}
@@ -136,8 +136,8 @@ invariant-values-loop-expr l =
 abbrev pub invariant-arguments-loop-at : goal.invariant-arguments-loop-at
 invariant-arguments-loop-at l = record {
   whole : arguments (context_of l.context) (plain_args l.args) l.parameters (state_of l.context.run.now.replies.now l.fn.state) ≡
-      behind (operands_of l.passed) (arguments (context_of l.context) (plain_args (drop l.at l.items)) (drop l.at l.parameters) (state_of l.context.run.now.replies.now l.state));
-  both : length l.passed.indexes ≡ length l.passed.starts;
+      behind (interleaved l.indexes l.starts) (arguments (context_of l.context) (plain_args (drop l.at l.items)) (drop l.at l.parameters) (state_of l.context.run.now.replies.now l.state));
+  both : length l.indexes ≡ length l.starts;
 }
 
 abbrev pub invariant-does_all-loop-stmt : goal.invariant-does_all-loop-stmt

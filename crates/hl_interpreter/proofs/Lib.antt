@@ -14,6 +14,7 @@ pub mod HeldNames
 pub mod HeldPaths
 pub mod HeldTypes
 pub mod Indexing
+pub mod Lanes
 pub mod Loops
 pub mod Meeting
 pub mod Registers

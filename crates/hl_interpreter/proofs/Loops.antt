@@ -1,5 +1,5 @@
 -- Loops that do one part after another.
-use Rattle.std.proofs.Common.{◌≡◌, ◌∙◌, refl, sym, ap, subst, ℕ, zero, suc, ◌+◌, ◌*◌, ◌<◌, ◌≤◌, List, [], ◌∷◌, ◌++◌, drop, get_or, length, map, Result, Ok, Err, suc-add, arith}
+use Rattle.std.proofs.Common.{◌≡◌, ◌∙◌, refl, sym, ap, ℕ, zero, suc, ◌+◌, ◌*◌, ◌<◌, ◌≤◌, List, [], ◌∷◌, ◌++◌, drop, get_or, length, map, Err, arith}
 use Rattle.std.proofs.lemmas.List.{drop_all, drop-map}
 use Rattle.std.specs.Int.{div_ceil}
 use Rattle.std.specs.List.{concat, range_with_len, zip}
@@ -10,7 +10,7 @@ use Rattle.hl_interpreter.specs.declared.run.Stop.{Stop}
 use Rattle.hl_interpreter.specs.declared.run.Stop.TheVariants.{Ends, Memory}
 use Rattle.hl_interpreter.specs.Runs.{Meets}
 use Rattle.hl_interpreter.proofs.Meeting.{behind, behind-behind, behind-end, behind-first, behind-first-stops, done-first, done-first-stops, same}
-use Rattle.hl_interpreter.proofs.Turns.{length-range, range-next}
+use Rattle.hl_interpreter.proofs.Turns.{drop-next, length-range, range-next}
 
 -- ---- parts whose values are gathered
 
@@ -73,7 +73,7 @@ module _ {A : Type 0} (part : A → State → Progress (List ℕ)) (xs : List A)
 mapped-next : {A B : Type 0} (f : A → B) (xs : List A) (i : ℕ) (x : A) → drop i xs ≡ x ∷ drop (i + 1) xs → drop i (map f xs) ≡ f x ∷ drop (i + 1) (map f xs)
 mapped-next f xs i x e = drop-map f i xs ∙ (ap (map f) e ∙ ap (λ l. f x ∷ l) (sym (drop-map f (i + 1) xs)))
 
-counted-next : (count i : ℕ) → i < count → drop i (range_with_len 0 count) ≡ i ∷ drop (i + 1) (range_with_len 0 count)
+pub counted-next : (count i : ℕ) → i < count → drop i (range_with_len 0 count) ≡ i ∷ drop (i + 1) (range_with_len 0 count)
 counted-next count i within = range-next 0 i count within ∙ ap (λ k. k ∷ drop (i + 1) (range_with_len 0 count)) (omega arith)
 
 -- the next word of a place
@@ -118,3 +118,12 @@ length-zipped [] [] e = refl
 length-zipped [] (y ∷ ys) e = absurd (omega arith)
 length-zipped (x ∷ xs) [] e = absurd (omega arith)
 length-zipped (x ∷ xs) (y ∷ ys) e = ap suc (length-zipped xs ys (omega arith))
+
+-- the next word that is written, with its offset
+pub written-next : (offset : ℕ) (words : List ℕ) (i word : ℕ) → i < length words → word ≡ get_or words i word
+    → drop i (zip (word_offsets offset (length words)) words) ≡ (wrapping_add offset i, word) ∷ drop (i + 1) (zip (word_offsets offset (length words)) words)
+written-next offset words i word within is =
+    zipped-next (word_offsets offset (length words)) words i (wrapping_add offset i) word (offset-next offset (length words) i within) (drop-next words i word within is)
+
+pub length-written : (offset : ℕ) (words : List ℕ) → length (zip (word_offsets offset (length words)) words) ≡ length words
+length-written offset words = length-zipped (word_offsets offset (length words)) words (length-offsets offset (length words))

@@ -1,9 +1,9 @@
 -- Places as the meaning of programs speaks of them.
-use Rattle.std.specs.Prelude.{ℕ}
+use Rattle.std.specs.Prelude.{ℕ, List, [], ◌∷◌}
 use Rattle.hl_meaning.specs.Trees.{PathPart, index_part}
 use Rattle.hl_meaning.specs.Types.{Ty, scalar_type, void_type}
 use Rattle.hl_meaning.specs.Views.{plain_ty}
-use Rattle.hl_source.specs.Offsets.{Holder, Place, Reached, in_constant, in_element, in_shared, in_variable}
+use Rattle.hl_source.specs.Offsets.{Holder, Place, Reached, in_constant, in_element, in_shared, in_variable, literal_word}
 use Rattle.hl_interpreter.specs.declared.places.Holder.{Holder as HeldHolder}
 use Rattle.hl_interpreter.specs.declared.places.Holder.TheVariants.{Constant, Element, Shared, Variable}
 use Rattle.hl_interpreter.specs.declared.places.Place.{Place as HeldPlace}
@@ -27,6 +27,11 @@ plain_holder (Element slot index) = in_element slot index
 
 abbrev pub plain_place : HeldPlace → Place
 plain_place p = record { holder = plain_holder p.holder; at = plain_reached p.at }
+
+-- the word of a step that is an index, and none of another step
+abbrev pub literal_of : PathPart → List ℕ
+literal_of (index_part index) = literal_word index ∷ []
+literal_of _ = []
 
 -- how many indexes a step takes
 abbrev pub index_count : PathPart → ℕ

@@ -102,9 +102,14 @@ fn atomic_word(
         }
         Holder::Element { slot, index } => {
             let at = byte_offset(offset, 0);
-            asks_word(run, buffer_atomic(slot, index, at, kind, compare, word), state)
+            asks_word(
+                run,
+                buffer_atomic(slot, index, at, kind, compare, word),
+                state,
+            )
         }
-        Holder::Variable(_) | Holder::Constant(_) => Ok(0),
+        Holder::Variable(_) => Ok(0),
+        Holder::Constant(_) => Ok(0),
     }
 }
 
@@ -127,12 +132,24 @@ pub(crate) fn atomic_original(
     match target {
         Target::Place(location) => {
             let place = place_of(context, location, indexes)?;
-            atomic_word(run, place.holder, place.at.offset, kind, compare, word, state)
+            atomic_word(
+                run,
+                place.holder,
+                place.at.offset,
+                kind,
+                compare,
+                word,
+                state,
+            )
         }
         Target::Bytes { resource, .. } => {
             let slot = slot_of(run, *resource);
             let address = word_at(indexes, 0);
-            asks_word(run, buffer_atomic(slot, address, 0, kind, compare, word), state)
+            asks_word(
+                run,
+                buffer_atomic(slot, address, 0, kind, compare, word),
+                state,
+            )
         }
     }
 }

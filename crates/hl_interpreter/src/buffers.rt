@@ -121,7 +121,14 @@ pub(crate) fn store_words(
     for piece in 0..words.len().div_ceil(4) {
         let first = 4 * piece;
         let some = four_at(words, first);
-        store_four(run, slot, index, byte_offset(offset, first as u32), some, state)?;
+        store_four(
+            run,
+            slot,
+            index,
+            byte_offset(offset, first as u32),
+            some,
+            state,
+        )?;
     }
     Ok(())
 }

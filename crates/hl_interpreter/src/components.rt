@@ -26,15 +26,22 @@ pub(crate) fn one_word(alloc: Global, word: u32) -> Result<Words, NoMemory>
     Ok(words)
 }
 
+/// A word so many times.
+fn repeated(alloc: Global, word: u32, count: usize) -> Result<Words, NoMemory>
+    ensures { IfOk result (λ words. words ≡ replicate count word) }
+{
+    let mut words = Words::new(alloc);
+    for _turn in 0..count {
+        words.push(word)?;
+    }
+    Ok(words)
+}
+
 /// So many zeros.
 pub(crate) fn zeros(alloc: Global, count: u32) -> Result<Words, NoMemory>
     ensures { IfOk result (λ words. words ≡ replicate count 0) }
 {
-    let mut words = Words::new(alloc);
-    for _turn in 0..count {
-        words.push(0)?;
-    }
-    Ok(words)
+    repeated(alloc, 0, count as usize)
 }
 
 /// The word of a value at a place, and 0 past its end.
@@ -56,14 +63,10 @@ fn resized(alloc: Global, from: &HlType, to: &HlType, words: &[u32]) -> Result<W
     ensures { IfOk result (λ sized. sized ≡ resized (plain_ty from.now) (plain_ty to.now) words.now) }
 {
     let count = component_count(to);
-    let mut result = Words::new(alloc);
-    if let HlType::Scalar(_) = from {
-        for _turn in 0..count {
-            result.push(word_at(words, 0))?;
-        }
-        return Ok(result);
+    match from {
+        HlType::Scalar(_) => repeated(alloc, word_at(words, 0), count),
+        _ => first_words(alloc, words, count),
     }
-    first_words(alloc, words, count)
 }
 
 /// Each word as a value of a kind.
@@ -91,16 +94,12 @@ pub(crate) fn converted(
 }
 
 /// Each word as a value of its own kind.
-pub(crate) fn words_by_kind(
-    alloc: Global,
-    kinds: &[Kind],
-    words: &[u32],
-) -> Result<Words, NoMemory>
+pub(crate) fn words_by_kind(alloc: Global, kinds: &[Kind], words: &[u32]) -> Result<Words, NoMemory>
     ensures { IfOk result (λ values. values ≡ map_2 word_as kinds.now words.now) }
 {
     let mut result = Words::new(alloc);
-    for (kind, word) in kinds.iter().zip(words) {
-        result.push(word_as(*kind, *word))?;
+    for at in 0..kinds.len().min(words.len()) {
+        result.push(word_as(kinds[at], words[at]))?;
     }
     Ok(result)
 }
@@ -130,8 +129,8 @@ pub(crate) fn binary_words(
     ensures { (s : State) → Gives result s (gives (binary_words op kind left.now right.now) s) }
 {
     let mut result = Words::new(alloc);
-    for (one, other) in left.iter().zip(right) {
-        let word = binary_word(op, kind, *one, *other)?;
+    for at in 0..left.len().min(right.len()) {
+        let word = binary_word(op, kind, left[at], right[at])?;
         result.push(word)?;
     }
     Ok(result)
@@ -147,11 +146,9 @@ pub(crate) fn chosen_words(
     ensures { IfOk result (λ chosen. chosen ≡ map_3 chosen_word condition.now consequent.now alternative.now) }
 {
     let mut result = Words::new(alloc);
-    for (at, truth) in condition.iter().enumerate() {
-        if at >= consequent.len() || at >= alternative.len() {
-            return Ok(result);
-        }
-        result.push(chosen_word(*truth, consequent[at], alternative[at]))?;
+    let count = condition.len().min(consequent.len()).min(alternative.len());
+    for at in 0..count {
+        result.push(chosen_word(condition[at], consequent[at], alternative[at]))?;
     }
     Ok(result)
 }

@@ -3,37 +3,39 @@
 //! An expression evaluates its operands from left to right, and then acts on their words. All functions give want of
 //! memory where memory is refused, and the end of the run where it ends in them.
 
-ghost use Rattle.std.specs.Prelude.{◌≡◌, ℕ, ◌∷◌, ◌++◌, ◌^◌, ◌<◌, List, [], IfOk, None, OnOk, Some, drop, length, map, option_map, slice_get, slice_index, slice_index_or, slice_set, take, unwrap_or};
+ghost use Rattle.std.specs.Prelude.{◌≡◌, ℕ, List, [], ◌∷◌, IfOk, length, None, Some, map, option_map, slice_index, slice_index_or, take};
 ghost use Rattle.std.specs.List.{concat};
 ghost use Rattle.hl_meaning.specs.Trees.{atomic_form, binary_form, call_form, choose_form, do_stmt, for_stmt, if_stmt, method_form, while_stmt};
 ghost use Rattle.hl_meaning.specs.Types.{Ty};
-ghost use Rattle.hl_meaning.specs.Views.{plain_arg, plain_args, plain_expr, plain_exprs, plain_function, plain_location, plain_maybe_expr, plain_maybe_location, plain_maybe_stmt, plain_part, plain_root, plain_stmt, plain_stmts, plain_target, plain_ty, plain_variable};
-ghost use Rattle.hl_source.specs.Expressions.{argument_of, arguments, assigned, assigns, copies_out, evaluates, indexes, indexes_if, no_callee, parameters_of, read_if, root_index, starts_with, step_index, target_indexes, value_if, values};
-ghost use Rattle.hl_source.specs.Memory.{load_four, zeros_of};
+ghost use Rattle.hl_meaning.specs.Views.{plain_arg, plain_args, plain_expr, plain_exprs, plain_function, plain_location, plain_maybe_expr, plain_maybe_location, plain_maybe_stmt, plain_part, plain_root, plain_stmt, plain_stmts, plain_target};
+ghost use Rattle.hl_source.specs.Expressions.{argument_of, arguments, atomic_original, write_if, evaluates, indexes, indexes_if, no_callee, root_index, step_index, target_indexes, value_if, values};
+ghost use Rattle.hl_source.specs.Memory.{load_four, store_four};
 ghost use Rattle.hl_source.specs.Offsets.{slot_of};
 ghost use Rattle.hl_source.specs.SourceLane.{value_of};
-ghost use Rattle.hl_source.specs.State.{State as PlainState, after, goes_with};
-ghost use Rattle.hl_source.specs.Statements.{Doing, computes_if, condition, condition_if, declares, does, does_all, returns, tested_turn, testing_turn, then_loop};
-ghost use Rattle.hl_interpreter.specs.Operands.{interleaved, operands_of, pair_of};
-ghost use Rattle.hl_interpreter.specs.Runs.{Does, Gives, Meets, callees_behind, context_of, form_value, loop_left, plain_leaving, run_context, state_of, tests};
+ghost use Rattle.hl_source.specs.State.{State as PlainState, after, goes_with, no_value};
+ghost use Rattle.hl_source.specs.Statements.{Doing, computes_if, condition, condition_if, declares, does, does_all, returns, tested_turn, testing_turn, then_loop, turns};
+ghost use Rattle.hl_interpreter.specs.Operands.{operands_of, pair_of};
+ghost use Rattle.hl_interpreter.specs.Runs.{Gives, Meets, callees_behind, context_of, form_value, loop_left, plain_leaving, run_context, state_of, tests};
 
+use crate::assignments::assigns;
 use crate::atomics::{atomic_original, write_original};
 use crate::buffers::{load_four, store_four};
+use crate::calling::{copies_out, copying_at, parameters_of, starts_with};
 use crate::components::{
-    binary_words, chosen_words, converted, first_words, one_word, unary_words, word_at, zeros,
+    binary_words, chosen_words, converted, first_words, one_word, unary_words, word_at,
 };
 use crate::intrinsics::worked;
-use crate::layout::words_of;
-use crate::memory::{read_place, write_place};
+use crate::memory::read_place;
 use crate::operations::component_kind;
 use crate::places::{picked_words, slot_of};
 use crate::run::{Context, Run, Stop};
 use crate::state::State;
+use crate::variables::{add_variables, clear_variable, set_variable};
 use crate::words::holds;
 use base_core::{NoMemory, Sequence, Words};
 use hl_meaning::{
-    Arg, Args, Copying, Expr, Exprs, Form, FunctionDef, HlType, Location, Parameter, PathPart,
-    PathParts, Root, Stmt, Stmts, Target,
+    Arg, Args, Copying, Expr, Exprs, Form, FunctionDef, Location, Parameter, PathPart, PathParts,
+    Root, Stmt, Stmts, Target,
 };
 use lane_core::{Asked, AtomicKind};
 use sqlite_items::Boxed;
@@ -71,10 +73,7 @@ pub(crate) fn evaluates(context: &Context, expr: &Expr, state: &mut State) -> Re
 {
     let alloc = context.run.alloc;
     match &expr.form {
-        Form::Literal(word) => {
-            let words = one_word(alloc, *word)?;
-            Ok(words)
-        }
+        Form::Literal(word) => given(one_word(alloc, *word)),
         Form::Read(place) => {
             let indexes = indexes(context, place, state)?;
             read_place(context, place, indexes.as_slice(), state)
@@ -88,35 +87,38 @@ pub(crate) fn evaluates(context: &Context, expr: &Expr, state: &mut State) -> Re
         } => {
             let indexes = indexes(context, to, state)?;
             let words = evaluates(context, value.get(), state)?;
-            assigns(context, to, *op, common, *old, indexes.as_slice(), words, state)
+            assigns(
+                context,
+                to,
+                *op,
+                common,
+                *old,
+                indexes.as_slice(),
+                words,
+                state,
+            )
         }
         Form::Convert(value) => {
             let value = value.get();
             let words = evaluates(context, value, state)?;
-            let words = converted(alloc, &value.ty, &expr.ty, words.as_slice())?;
-            Ok(words)
+            given(converted(alloc, &value.ty, &expr.ty, words.as_slice()))
         }
         Form::Unary { op, value } => {
             let words = evaluates(context, value.get(), state)?;
-            let words = unary_words(alloc, *op, words.as_slice())?;
-            Ok(words)
+            given(unary_words(alloc, *op, words.as_slice()))
         }
-        Form::Binary { op, left, right } => {
-            binary(context, *op, left.get(), right.get(), state)
-        }
+        Form::Binary { op, left, right } => { binary(context, *op, left.get(), right.get(), state) }
         Form::Choose { cond, yes, no } => {
             choice(context, cond.get(), yes.get(), no.get(), state)
         }
         Form::Build(parts) => {
             let values = values(context, parts, state)?;
-            let words = joined(alloc, values.as_slice())?;
-            Ok(words)
+            given(joined(alloc, values.as_slice()))
         }
         Form::Pick { value, parts } => {
             let value = value.get();
             let words = evaluates(context, value, state)?;
-            let words = picked_words(context.run, &value.ty, parts.as_slice(), words.as_slice())?;
-            Ok(words)
+            given(picked_words(context.run, &value.ty, parts.as_slice(), words.as_slice()))
         }
         Form::Call { function, args } => calls(context, *function, args, state),
         Form::Intrinsic { number, args } => {
@@ -135,7 +137,15 @@ pub(crate) fn evaluates(context: &Context, expr: &Expr, state: &mut State) -> Re
             compare,
             value,
             original,
-        } => atomic(context, target, *kind, compare, value.get(), original, state),
+        } => atomic(
+            context,
+            target,
+            *kind,
+            compare,
+            value.get(),
+            original,
+            state,
+        ),
     }
 }
 
@@ -175,13 +185,22 @@ fn choice(
     let truths = evaluates(context, cond, state)?;
     let words = evaluates(context, consequent, state)?;
     let others = evaluates(context, alternative, state)?;
-    let chosen = chosen_words(
+    given(chosen_words(
         context.run.alloc,
         truths.as_slice(),
         words.as_slice(),
         others.as_slice(),
-    )?;
-    Ok(chosen)
+    ))
+}
+
+/// Words, where there was memory for them.
+fn given(words: Result<Words, NoMemory>) -> Result<Words, Stop>
+    ensures { (value : List ℕ) (s : PlainState) → IfOk words (λ found. found ≡ value) → Gives result s (goes_with value s) }
+{
+    match words {
+        Ok(words) => Ok(words),
+        Err(_) => Err(Stop::Memory),
+    }
 }
 
 /// The words of values, one after another.
@@ -193,70 +212,6 @@ fn joined(alloc: Global, values: &[Words]) -> Result<Words, NoMemory>
         words.extend_from_slice(value.as_slice())?;
     }
     Ok(words)
-}
-
-/// A place is read for an operator alone.
-fn read_if(
-    context: &Context,
-    op: Option<u8>,
-    place: &Location,
-    indexes: &[u32],
-    state: &mut State,
-) -> Result<Words, Stop>
-    ensures { Gives result (state_of context.now.run.now.replies.now state.new) (read_if (context_of context.now) op (plain_location place.now) indexes.now (state_of context.now.run.now.replies.now state.old)) }
-{
-    match op {
-        Some(_) => read_place(context, place, indexes, state),
-        None => Ok(Words::new(context.run.alloc)),
-    }
-}
-
-/// What is written: the value; or, with an operator, what it computes in a type from the value that the place has and the
-/// new one, converted to the type of the place.
-fn assigned(
-    run: &Run,
-    op: Option<u8>,
-    common: &HlType,
-    to: &HlType,
-    before: &[u32],
-    words: Words,
-) -> Result<Words, Stop>
-    ensures { (s : PlainState) → Gives result s (assigned op (plain_ty common.now) (plain_ty to.now) before.now words s) }
-{
-    match op {
-        Some(op) => {
-            let before = converted(run.alloc, to, common, before)?;
-            let computed = binary_words(
-                run.alloc,
-                op,
-                component_kind(common),
-                before.as_slice(),
-                words.as_slice(),
-            )?;
-            let written = converted(run.alloc, common, to, computed.as_slice())?;
-            Ok(written)
-        }
-        None => Ok(words),
-    }
-}
-
-/// An assignment with the words of its operands. Its value is what is written, or where `old` holds what stood there.
-fn assigns(
-    context: &Context,
-    to: &Location,
-    op: Option<u8>,
-    common: &HlType,
-    old: bool,
-    indexes: &[u32],
-    words: Words,
-    state: &mut State,
-) -> Result<Words, Stop>
-    ensures { Gives result (state_of context.now.run.now.replies.now state.new) (assigns (context_of context.now) (plain_location to.now) op (plain_ty common.now) old indexes.now words (state_of context.now.run.now.replies.now state.old)) }
-{
-    let before = read_if(context, op, to, indexes, state)?;
-    let written = assigned(context.run, op, common, &to.ty, before.as_slice(), words)?;
-    write_place(context, to, indexes, written.as_slice(), state)?;
-    Ok(if old { before } else { written })
 }
 
 /// The indexes of a place, in order, the one of an element of a buffer first. Each is one word.
@@ -327,9 +282,7 @@ fn method(
         None => load_method(run, resource, count, at.as_slice(), state),
         Some(value) => {
             let words = evaluates(context, value.get(), state)?;
-            let slot = slot_of(run, resource);
-            store_four(run, slot, word_at(at.as_slice(), 0), 0, words.as_slice(), state)?;
-            Ok(Words::new(run.alloc))
+            store_method(run, resource, at.as_slice(), words.as_slice(), state)
         }
     }
 }
@@ -347,8 +300,23 @@ fn load_method(
 {
     let slot = slot_of(run, resource);
     let words = load_four(run, slot, word_at(at, 0), 0, state)?;
-    let first = first_words(run.alloc, words.as_slice(), count as usize)?;
-    Ok(first)
+    given(first_words(run.alloc, words.as_slice(), count as usize))
+}
+
+/// One store at a byte address. It has no words.
+fn store_method(
+    run: &Run,
+    resource: u32,
+    at: &[u32],
+    words: &[u32],
+    state: &mut State,
+) -> Result<Words, Stop>
+    ensures { Gives result (state_of run.now.replies.now state.new)
+        (store_four (slot_of (run_context run.now) resource) (slice_index at.now 0) 0 words.now (state_of run.now.replies.now state.old)) }
+{
+    let slot = slot_of(run, resource);
+    store_four(run, slot, word_at(at, 0), 0, words, state)?;
+    Ok(Words::new(run.alloc))
 }
 
 /// An atomic operation.
@@ -370,8 +338,38 @@ fn atomic(
     let place = indexes_if(context, original, state)?;
     let compare = word_at(compared.as_slice(), 0);
     let word = word_at(words.as_slice(), 0);
-    let before = atomic_original(context, target, kind, at.as_slice(), compare, word, state)?;
-    write_original(context, original, place.as_slice(), before, state)?;
+    operates(
+        context,
+        target,
+        kind,
+        original,
+        at.as_slice(),
+        compare,
+        word,
+        place.as_slice(),
+        state,
+    )
+}
+
+/// An atomic operation with the words of its operands. It has no words: the original value is written where a place for it
+/// is given.
+fn operates(
+    context: &Context,
+    target: &Target,
+    kind: Option<AtomicKind>,
+    original: &Option<Location>,
+    at: &[u32],
+    compare: u32,
+    word: u32,
+    place: &[u32],
+    state: &mut State,
+) -> Result<Words, Stop>
+    ensures { Gives result (state_of context.now.run.now.replies.now state.new)
+        (after (atomic_original (context_of context.now) (plain_target target.now) kind at.now compare word (state_of context.now.run.now.replies.now state.old))
+        (λ before s. no_value (write_if (context_of context.now) (plain_maybe_location original.now) place.now (before ∷ []) s))) }
+{
+    let before = atomic_original(context, target, kind, at, compare, word, state)?;
+    write_original(context, original, place, before, state)?;
     Ok(Words::new(context.run.alloc))
 }
 
@@ -403,47 +401,12 @@ fn value_if(
 
 /// The indexes of a place that may be left out.
 #[cycle(running)]
-fn indexes_if(
-    context: &Context,
-    place: &Option<Location>,
-    state: &mut State,
-) -> Result<Words, Stop>
+fn indexes_if(context: &Context, place: &Option<Location>, state: &mut State) -> Result<Words, Stop>
     ensures { Gives result (state_of context.now.run.now.replies.now state.new) (indexes_if (context_of context.now) (plain_maybe_location place.now) (state_of context.now.run.now.replies.now state.old)) }
 {
     match place {
         Some(place) => indexes(context, place, state),
         None => Ok(Words::new(context.run.alloc)),
-    }
-}
-
-/// What a parameter starts with whose argument is a place: an `out` parameter with zeros, and an `inout` parameter with
-/// the value of the place.
-fn starts_with(
-    context: &Context,
-    copying: Copying,
-    place: &Location,
-    indexes: &[u32],
-    state: &mut State,
-) -> Result<Words, Stop>
-    ensures { Gives result (state_of context.now.run.now.replies.now state.new) (starts_with (context_of context.now) copying (plain_location place.now) indexes.now (state_of context.now.run.now.replies.now state.old)) }
-{
-    match copying {
-        Copying::CopyOut => {
-            let count = words_of(context.run.program, &place.ty)?;
-            let words = zeros(context.run.alloc, count)?;
-            Ok(words)
-        }
-        Copying::CopyIn | Copying::CopyBoth => read_place(context, place, indexes, state),
-    }
-}
-
-/// The parameters of the function of a number.
-fn parameters_of<'a>(context: &Context<'a>, function: u32) -> &'a [Parameter]
-    ensures { result.now ≡ parameters_of (context_of context.now) function }
-{
-    match context.callees.get(function as usize) {
-        Some(function) => function.parameters.as_slice(),
-        None => &[],
     }
 }
 
@@ -455,22 +418,21 @@ fn arguments(
     args: &Args,
     state: &mut State,
 ) -> Result<Passed, Stop>
-    ensures { Meets operands_of result (state_of context.now.run.now.replies.now state.new) (arguments (context_of context.now) (plain_args args.now) parameters.now (state_of context.now.run.now.replies.now state.old)) }
+    ensures both { IfOk result (λ passed. length passed.indexes ≡ length passed.starts) }
+    ensures met { Meets operands_of result (state_of context.now.run.now.replies.now state.new) (arguments (context_of context.now) (plain_args args.now) parameters.now (state_of context.now.run.now.replies.now state.old)) }
 {
-    let mut passed = Passed {
-        indexes: Sequence::new(context.run.alloc),
-        starts: Sequence::new(context.run.alloc),
-    };
-    for (at, arg) in args.as_slice().iter().enumerate() {
-        if at >= parameters.len() {
-            return Ok(passed);
-        }
-        let PassedArgument { indexes, start } =
-            argument(context, parameters[at].copying, arg, state)?;
-        passed.indexes.push(indexes)?;
-        passed.starts.push(start)?;
+    let mut indexes = Sequence::new(context.run.alloc);
+    let mut starts = Sequence::new(context.run.alloc);
+    let items = args.as_slice();
+    for at in 0..items.len().min(parameters.len()) {
+        let PassedArgument {
+            indexes: words,
+            start,
+        } = argument(context, copying_at(parameters, at), &items[at], state)?;
+        indexes.push(words)?;
+        starts.push(start)?;
     }
-    Ok(passed)
+    Ok(Passed { indexes, starts })
 }
 
 /// An argument of a call: an `in` argument is evaluated; of another one the indexes are evaluated, and an `inout` argument
@@ -498,37 +460,9 @@ fn argument(
     }
 }
 
-/// Behind the body the values of `out` and `inout` parameters are written back, in order of the parameters.
-fn copies_out(
-    context: &Context,
-    args: &Args,
-    indexes: &[Words],
-    parameters: &[Words],
-    state: &mut State,
-) -> Result<(), Stop>
-    ensures { (starts : List (List ℕ)) → length starts ≡ length indexes.now
-        → Does result (state_of context.now.run.now.replies.now state.new) (copies_out (context_of context.now) (plain_args args.now) (interleaved indexes.now starts) parameters.now (state_of context.now.run.now.replies.now state.old)) }
-{
-    for (at, arg) in args.as_slice().iter().enumerate() {
-        if at >= indexes.len() || at >= parameters.len() {
-            return Ok(());
-        }
-        if let Arg::Place(place) = arg {
-            let words = parameters[at].as_slice();
-            write_place(context, place, indexes[at].as_slice(), words, state)?;
-        }
-    }
-    Ok(())
-}
-
 /// A call runs the function with variables of its own. Its result is computed before the values are written back.
 #[cycle(running)]
-fn calls(
-    context: &Context,
-    function: u32,
-    args: &Args,
-    state: &mut State,
-) -> Result<Words, Stop>
+fn calls(context: &Context, function: u32, args: &Args, state: &mut State) -> Result<Words, Stop>
     ensures { (ty : Ty) → Gives result (state_of context.now.run.now.replies.now state.new) (form_value (context_of context.now) ty (call_form function (plain_args args.now)) (state_of context.now.run.now.replies.now state.old)) }
 {
     let parameters = parameters_of(context, function);
@@ -536,34 +470,14 @@ fn calls(
     let own = mem::replace(&mut state.variables, starts.into_vec());
     let result = runs(context.run, context.callees, function, state)?;
     let parameters = mem::replace(&mut state.variables, own);
-    copies_out(context, args, indexes.as_slice(), parameters.as_slice(), state)?;
+    copies_out(
+        context,
+        args,
+        indexes.as_slice(),
+        parameters.as_slice(),
+        state,
+    )?;
     Ok(result)
-}
-
-/// Adds a variable.
-fn push_variable(words: Words, state: &mut State) -> Result<(), NoMemory>
-    ensures variables { OnOk result (state.new.variables.items ≡ state.old.variables.items ++ words ∷ []) }
-    ensures events { state.new.events ≡ state.old.events }
-{
-    state.variables.push(words)?;
-    Ok(())
-}
-
-/// Adds the zeros of the variables of a function that aren't parameters.
-fn add_variables(run: &Run, function: &FunctionDef, state: &mut State) -> Result<(), NoMemory>
-    ensures variables { OnOk result (state.new.variables.items
-        ≡ state.old.variables.items ++ map (λ v. zeros_of (run_context run.now) v.ty) (drop (length function.now.parameters) (map plain_variable function.now.variables))) }
-    ensures events { state.new.events ≡ state.old.events }
-{
-    let parameters = function.parameters.len();
-    for (at, variable) in function.variables.as_slice().iter().enumerate() {
-        if at >= parameters {
-            let count = words_of(run.program, &variable.ty)?;
-            let words = zeros(run.alloc, count)?;
-            push_variable(words, state)?;
-        }
-    }
-    Ok(())
 }
 
 /// The function of a number, as it is called: the state has the words of its parameters, and afterwards those of all its
@@ -585,7 +499,7 @@ pub(crate) fn runs(
     }
     let function = &functions[number];
     let context = Context {
-        run,
+        run: &*run,
         callees: &functions[..number],
         function,
     };
@@ -656,11 +570,7 @@ fn condition(context: &Context, cond: &Expr, state: &mut State) -> Result<bool, 
 
 /// The truth value of the condition of a `for`, which goes on without one.
 #[cycle(running)]
-fn condition_if(
-    context: &Context,
-    cond: &Option<Expr>,
-    state: &mut State,
-) -> Result<bool, Stop>
+fn condition_if(context: &Context, cond: &Option<Expr>, state: &mut State) -> Result<bool, Stop>
     ensures { Meets (λ truth. truth) result (state_of context.now.run.now.replies.now state.new) (condition_if (context_of context.now) (option_map plain_expr cond.now) (state_of context.now.run.now.replies.now state.old)) }
 {
     match cond {
@@ -671,11 +581,7 @@ fn condition_if(
 
 /// A value that isn't used is computed all the same.
 #[cycle(running)]
-fn computes_if(
-    context: &Context,
-    value: &Option<Expr>,
-    state: &mut State,
-) -> Result<Leaving, Stop>
+fn computes_if(context: &Context, value: &Option<Expr>, state: &mut State) -> Result<Leaving, Stop>
     ensures { Meets plain_leaving result (state_of context.now.run.now.replies.now state.new) (computes_if (context_of context.now) (option_map plain_expr value.now) (state_of context.now.run.now.replies.now state.old)) }
 {
     match value {
@@ -710,38 +616,9 @@ fn declares(
     }
 }
 
-/// A variable gets these words.
-fn set_variable(variable: u32, words: Words, state: &mut State)
-    ensures variables { state.new.variables.items ≡ slice_set state.old.variables.items variable words }
-    ensures events { state.new.events ≡ state.old.events }
-{
-    let number = variable as usize;
-    if number < state.variables.len() {
-        state.variables[number] = words;
-    }
-}
-
-/// A variable gets zeros.
-fn clear_variable(alloc: Global, variable: u32, state: &mut State) -> Result<(), NoMemory>
-    ensures variables { OnOk result (state.new.variables.items
-        ≡ slice_set state.old.variables.items variable (map (λ _. 0) (unwrap_or (slice_get state.old.variables.items variable) []))) }
-    ensures events { state.new.events ≡ state.old.events }
-{
-    let number = variable as usize;
-    if number < state.variables.len() {
-        let count = state.variables[number].len();
-        state.variables[number] = zeros(alloc, count as u32)?;
-    }
-    Ok(())
-}
-
 /// `return`, whose value is left.
 #[cycle(running)]
-fn returns(
-    context: &Context,
-    value: &Option<Expr>,
-    state: &mut State,
-) -> Result<Leaving, Stop>
+fn returns(context: &Context, value: &Option<Expr>, state: &mut State) -> Result<Leaving, Stop>
     ensures { Meets plain_leaving result (state_of context.now.run.now.replies.now state.new) (returns (context_of context.now) (option_map plain_expr value.now) (state_of context.now.run.now.replies.now state.old)) }
 {
     match value {
@@ -786,9 +663,22 @@ fn for_loop(
     ensures { Meets plain_leaving result (state_of context.now.run.now.replies.now state.new) (does (context_of context.now) context.now.run.now.turns (for_stmt (plain_stmts init.now) (option_map plain_expr cond.now) (option_map plain_expr step.now) (plain_stmt body.now)) (state_of context.now.run.now.replies.now state.old)) }
 {
     match does_all(context, init, state)? {
-        Leaving::AtEnd => {}
-        leaving => return Ok(leaving),
+        Leaving::AtEnd => for_turns(context, cond, step, body, state),
+        leaving => Ok(leaving),
     }
+}
+
+/// The turns of a `for`.
+#[cycle(running)]
+fn for_turns(
+    context: &Context,
+    cond: &Option<Expr>,
+    step: &Option<Expr>,
+    body: &Stmt,
+    state: &mut State,
+) -> Result<Leaving, Stop>
+    ensures { Meets plain_leaving result (state_of context.now.run.now.replies.now state.new) (turns context.now.run.now.turns (tested_turn (context_of context.now) (option_map plain_expr cond.now) (λ s. does (context_of context.now) context.now.run.now.turns (plain_stmt body.now) s) (option_map plain_expr step.now)) (state_of context.now.run.now.replies.now state.old)) }
+{
     for _turn in 0..context.run.turns {
         let leaving = for_turn(context, cond, step, body, state)?;
         if let Some(leaving) = behind_turn(leaving) {
@@ -871,12 +761,7 @@ fn while_turn(
 
 /// A `do`: in each turn the body, and then the condition, also where the body continues.
 #[cycle(running)]
-fn do_loop(
-    context: &Context,
-    body: &Stmt,
-    cond: &Expr,
-    state: &mut State,
-) -> Result<Leaving, Stop>
+fn do_loop(context: &Context, body: &Stmt, cond: &Expr, state: &mut State) -> Result<Leaving, Stop>
     ensures { Meets plain_leaving result (state_of context.now.run.now.replies.now state.new) (does (context_of context.now) context.now.run.now.turns (do_stmt (plain_stmt body.now) (plain_expr cond.now)) (state_of context.now.run.now.replies.now state.old)) }
 {
     for _turn in 0..context.run.turns {
@@ -890,12 +775,7 @@ fn do_loop(
 
 /// A turn of a `do`: the body, and then the condition, also where the body continues.
 #[cycle(running)]
-fn do_turn(
-    context: &Context,
-    body: &Stmt,
-    cond: &Expr,
-    state: &mut State,
-) -> Result<Leaving, Stop>
+fn do_turn(context: &Context, body: &Stmt, cond: &Expr, state: &mut State) -> Result<Leaving, Stop>
     ensures { Meets plain_leaving result (state_of context.now.run.now.replies.now state.new) (testing_turn (context_of context.now) (λ s. does (context_of context.now) context.now.run.now.turns (plain_stmt body.now) s) (plain_expr cond.now) (state_of context.now.run.now.replies.now state.old)) }
 {
     match does(context, body, state)? {

@@ -89,11 +89,8 @@ fn from_two(
     ensures { IfOk result (λ values. values ≡ map_2 (plain_two work kind) left.now right.now) }
 {
     let mut result = Words::new(alloc);
-    for (at, word) in left.iter().enumerate() {
-        if at >= right.len() {
-            return Ok(result);
-        }
-        result.push(two_of(work, kind, *word, right[at]))?;
+    for at in 0..left.len().min(right.len()) {
+        result.push(two_of(work, kind, left[at], right[at]))?;
     }
     Ok(result)
 }
@@ -109,11 +106,8 @@ fn clamped(
     ensures { IfOk result (λ values. values ≡ map_3 (clamped kind) words.now low.now high.now) }
 {
     let mut result = Words::new(alloc);
-    for (at, word) in words.iter().enumerate() {
-        if at >= low.len() || at >= high.len() {
-            return Ok(result);
-        }
-        result.push(lesser(kind, greater(kind, *word, low[at]), high[at]))?;
+    for at in 0..words.len().min(low.len()).min(high.len()) {
+        result.push(lesser(kind, greater(kind, words[at], low[at]), high[at]))?;
     }
     Ok(result)
 }
@@ -281,14 +275,7 @@ pub(crate) fn worked(
     match arguments {
         [] => alone(run, work, ty, state),
         [words] => with_one(run, work, ty, words.as_slice(), state),
-        [words, others] => with_two(
-            run,
-            work,
-            ty,
-            words.as_slice(),
-            others.as_slice(),
-            state,
-        ),
+        [words, others] => with_two(run, work, ty, words.as_slice(), others.as_slice(), state),
         [words, low, high] => with_three(
             run,
             work,

@@ -1,12 +1,15 @@
 //! How many words types have, and of which kinds they are.
 
-ghost use Rattle.std.specs.Prelude.{◌≡◌, ◌*◌, ◌++◌, [], IfOk, OnOk, replicate, slice_get, unwrap_or};
-ghost use Rattle.hl_meaning.specs.Layout.{kinds_in, kinds_of, repeated, struct_kinds_after, words_of};
-ghost use Rattle.hl_meaning.specs.Views.{plain_structs, plain_ty};
+ghost use Rattle.std.specs.Prelude.{◌≡◌, ◌*◌, [], IfOk, map, replicate, slice_get, unwrap_or};
+ghost use Rattle.hl_meaning.specs.Layout.{kinds_in, kinds_of, member_kinds, repeated, struct_kinds_after, words_of};
+ghost use Rattle.hl_meaning.specs.Views.{plain_member, plain_structs, plain_ty};
 
 use base_core::{NoMemory, Sequence};
-use hl_meaning::{HlType, Kind, Program, StructDef};
+use hl_meaning::{HlType, Kind, Member, Program, StructDef};
 use std::alloc::Global;
+
+/// The kinds of words, in order.
+pub(crate) type Kinds = Sequence<Kind>;
 
 /// The words of a type.
 ///
@@ -40,76 +43,83 @@ fn product(length: u32, words: u32) -> Result<u32, NoMemory>
 /// The kind of each word of a type, in order.
 ///
 /// # Errors
-/// `NoMemory` where memory is refused.
-pub(crate) fn kinds_of(
-    alloc: Global,
-    program: &Program,
-    ty: &HlType,
-) -> Result<Sequence<Kind>, NoMemory>
+/// `NoMemory` where memory is refused, as in each function below.
+pub(crate) fn kinds_of(alloc: Global, program: &Program, ty: &HlType) -> Result<Kinds, NoMemory>
     ensures { IfOk result (λ kinds. kinds ≡ kinds_of (plain_structs program.now.structs) (plain_ty ty.now)) }
 {
+    let structs = struct_kinds(alloc, program.structs.as_slice())?;
+    kinds_in(alloc, structs.as_slice(), ty)
+}
+
+/// The kinds of the words of each struct, behind those of the structs before it.
+fn struct_kinds(alloc: Global, structs: &[StructDef]) -> Result<Sequence<Kinds>, NoMemory>
+    ensures { IfOk result (λ all. all ≡ struct_kinds_after [] (plain_structs structs.now)) }
+{
+    let mut all = Sequence::new(alloc);
+    for structure in structs {
+        let kinds = member_kinds(alloc, all.as_slice(), structure.members.as_slice())?;
+        all.push(kinds)?;
+    }
+    Ok(all)
+}
+
+/// The kinds of the words of members, given those of each struct.
+fn member_kinds(alloc: Global, structs: &[Kinds], members: &[Member]) -> Result<Kinds, NoMemory>
+    ensures { IfOk result (λ kinds. kinds ≡ member_kinds structs.now (map plain_member members.now)) }
+{
     let mut kinds = Sequence::new(alloc);
-    add_kinds(program.structs.as_slice(), ty, &mut kinds)?;
+    for member in members {
+        let more = kinds_in(alloc, structs, &member.ty)?;
+        kinds.extend_from_slice(more.as_slice())?;
+    }
     Ok(kinds)
 }
 
-/// Adds the kinds of a type.
-#[cycle(kinds)]
-fn add_kinds(
-    structs: &[StructDef],
-    ty: &HlType,
-    kinds: &mut Sequence<Kind>,
-) -> Result<(), NoMemory>
-    ensures { OnOk result (kinds.new ≡ kinds.old ++ kinds_in (struct_kinds_after [] (plain_structs structs.now)) (plain_ty ty.now)) }
+/// The kinds of the words of a type, given those of each struct.
+fn kinds_in(alloc: Global, structs: &[Kinds], ty: &HlType) -> Result<Kinds, NoMemory>
+    ensures { IfOk result (λ kinds. kinds ≡ kinds_in structs.now (plain_ty ty.now)) }
 {
     match ty {
-        HlType::Void => Ok(()),
-        HlType::Scalar(kind) => kinds.push(*kind),
-        HlType::Vector(kind, size) => add_same(*kind, *size, kinds),
-        HlType::Array(element, length) => add_repeated(structs, element.get(), *length, kinds),
-        HlType::Struct(number) => add_struct(structs, *number as usize, kinds),
+        HlType::Void => Ok(Sequence::new(alloc)),
+        HlType::Scalar(kind) => same(alloc, *kind, 1),
+        HlType::Vector(kind, size) => same(alloc, *kind, *size),
+        HlType::Array(element, length) => {
+            let kinds = kinds_in(alloc, structs, element.get())?;
+            repeated(alloc, kinds.as_slice(), *length)
+        }
+        HlType::Struct(number) => struct_at(alloc, structs, *number as usize),
     }
 }
 
-/// Adds a kind so many times.
-fn add_same(kind: Kind, count: u8, kinds: &mut Sequence<Kind>) -> Result<(), NoMemory>
-    ensures { OnOk result (kinds.new ≡ kinds.old ++ replicate count kind) }
+/// A kind so many times.
+fn same(alloc: Global, kind: Kind, count: u8) -> Result<Kinds, NoMemory>
+    ensures { IfOk result (λ kinds. kinds ≡ replicate count kind) }
 {
+    let mut kinds = Sequence::new(alloc);
     for _turn in 0..count {
         kinds.push(kind)?;
     }
-    Ok(())
+    Ok(kinds)
 }
 
-/// Adds the kinds of a type so many times.
-#[cycle(kinds)]
-fn add_repeated(
-    structs: &[StructDef],
-    element: &HlType,
-    length: u32,
-    kinds: &mut Sequence<Kind>,
-) -> Result<(), NoMemory>
-    ensures { OnOk result (kinds.new ≡ kinds.old ++ repeated length (kinds_in (struct_kinds_after [] (plain_structs structs.now)) (plain_ty element.now))) }
+/// Kinds one behind the other so many times.
+fn repeated(alloc: Global, kinds: &[Kind], count: u32) -> Result<Kinds, NoMemory>
+    ensures { IfOk result (λ all. all ≡ repeated count kinds.now) }
 {
-    for _turn in 0..length {
-        add_kinds(structs, element, kinds)?;
+    let mut all = Sequence::new(alloc);
+    for _turn in 0..count {
+        all.extend_from_slice(kinds)?;
     }
-    Ok(())
+    Ok(all)
 }
 
-/// Adds the kinds of a struct, whose members name earlier structs alone.
-#[cycle(kinds)]
-fn add_struct(
-    structs: &[StructDef],
-    number: usize,
-    kinds: &mut Sequence<Kind>,
-) -> Result<(), NoMemory>
-    ensures { OnOk result (kinds.new ≡ kinds.old ++ unwrap_or (slice_get (struct_kinds_after [] (plain_structs structs.now)) number) []) }
+/// The kinds of the struct of a number, and none where it isn't there.
+fn struct_at(alloc: Global, structs: &[Kinds], number: usize) -> Result<Kinds, NoMemory>
+    ensures { IfOk result (λ kinds. kinds ≡ unwrap_or (slice_get structs.now number) []) }
 {
     if number < structs.len() {
-        for member in structs[number].members.as_slice() {
-            add_kinds(&structs[..number], &member.ty, kinds)?;
-        }
+        Sequence::from_slice(alloc, structs[number].as_slice())
+    } else {
+        Ok(Sequence::new(alloc))
     }
-    Ok(())
 }

@@ -4,8 +4,10 @@
 //! It is slow and simple on purpose: each part of the meaning has one function here, which does what is said there.
 #![tactic(auto)]
 
+mod assignments;
 mod atomics;
 mod buffers;
+mod calling;
 mod components;
 mod expressions;
 mod inputs;
@@ -21,6 +23,7 @@ mod slots;
 mod state;
 #[cfg(test)]
 mod tests;
+mod variables;
 mod words;
 mod works;
 mod writing;

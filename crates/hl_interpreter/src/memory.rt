@@ -1,21 +1,35 @@
 //! How places are read and written as values of their types.
 
-ghost use Rattle.std.specs.Prelude.{◌^◌, ◌<◌, length};
-ghost use Rattle.hl_meaning.specs.Views.{plain_location};
-ghost use Rattle.hl_source.specs.Memory.{read_place, read_reached, write_letters, write_place};
-ghost use Rattle.hl_interpreter.specs.HeldPlaces.{plain_holder, plain_reached};
+ghost use Rattle.std.specs.Prelude.{◌≡◌, ◌∷◌, ◌^◌, ◌<◌, [], IfOk, length};
+ghost use Rattle.std.specs.List.{zip};
+ghost use Rattle.lane_core.specs.Words.{wrapping_add};
+ghost use Rattle.hl_meaning.specs.Layout.{kinds_of};
+ghost use Rattle.hl_meaning.specs.Views.{plain_location, plain_structs};
+ghost use Rattle.hl_source.specs.Memory.{read_place, read_reached, write_letters, write_place, write_words};
+ghost use Rattle.hl_source.specs.Operations.{map_2, picked, word_as};
+ghost use Rattle.hl_source.specs.State.{each, no_value};
+ghost use Rattle.hl_interpreter.specs.HeldPlaces.{plain_holder, plain_reached, plain_type};
 ghost use Rattle.hl_interpreter.specs.Runs.{Does, Gives, context_of, state_of};
 
 use crate::components::{picked, words_by_kind};
 use crate::places::{Holder, Reached, place_of, reached_kinds, reached_words};
 use crate::reading::read_words;
-use crate::run::{Context, Stop};
+use crate::run::{Context, Run, Stop};
 use crate::state::State;
 use crate::writing::write_words;
-use base_core::Words;
+use base_core::{NoMemory, Words};
 use hl_meaning::Location;
 
-/// The value of what was reached. A swizzle of more than one letter reads the whole vector and then picks.
+/// Words as a value of what was reached. A swizzle of more than one letter picks among those of the whole vector.
+fn value_of(run: &Run, at: Reached, words: &[u32]) -> Result<Words, NoMemory>
+    ensures { IfOk result (λ value. value ≡ picked at.entry.letters.now (map_2 word_as (kinds_of (plain_structs run.now.program.now.structs) (plain_type at.entry.ty)) words.now)) }
+{
+    let kinds = reached_kinds(run.alloc, run.program, at.ty)?;
+    let value = words_by_kind(run.alloc, kinds.as_slice(), words)?;
+    picked(run.alloc, at.letters, value.as_slice())
+}
+
+/// The value of what was reached.
 fn read_reached(
     context: &Context,
     holder: Holder,
@@ -27,10 +41,27 @@ fn read_reached(
     let run = context.run;
     let count = reached_words(run.program, at.ty)?;
     let words = read_words(context, holder, at.offset, count, state)?;
-    let kinds = reached_kinds(run.alloc, run.program, at.ty)?;
-    let words = words_by_kind(run.alloc, kinds.as_slice(), words.as_slice())?;
-    let words = picked(run.alloc, at.letters, words.as_slice())?;
-    Ok(words)
+    let value = value_of(run, at, words.as_slice())?;
+    Ok(value)
+}
+
+/// Words written one by one, each at the component of its letter.
+fn write_each(
+    context: &Context,
+    holder: Holder,
+    offset: u32,
+    letters: &[u8],
+    words: &[u32],
+    state: &mut State,
+) -> Result<(), Stop>
+    ensures { Does result (state_of context.now.run.now.replies.now state.new)
+        (no_value (each (λ w. write_words (context_of context.now) (plain_holder holder) (wrapping_add offset w.0) (w.1 ∷ [])) (zip letters.now words.now) (state_of context.now.run.now.replies.now state.old))) }
+{
+    for number in 0..letters.len().min(words.len()) {
+        let at = offset.wrapping_add(u32::from(letters[number]));
+        write_words(context, holder, at, &[words[number]], state)?;
+    }
+    Ok(())
 }
 
 /// A value written to what was reached. A swizzle of more than one letter writes its components one by one, in the order
@@ -46,16 +77,10 @@ fn write_letters(
     ensures { Does result (state_of context.now.run.now.replies.now state.new) (write_letters (context_of context.now) (plain_holder holder) at.entry.offset at.entry.letters.now words.now (state_of context.now.run.now.replies.now state.old)) }
 {
     if at.letters.is_empty() {
-        return write_words(context, holder, at.offset, words, state);
+        write_words(context, holder, at.offset, words, state)
+    } else {
+        write_each(context, holder, at.offset, at.letters, words, state)
     }
-    for (number, letter) in at.letters.iter().enumerate() {
-        if number >= words.len() {
-            return Ok(());
-        }
-        let offset = at.offset.wrapping_add(u32::from(*letter));
-        write_words(context, holder, offset, &[words[number]], state)?;
-    }
-    Ok(())
 }
 
 /// The value of a place, with the words of its indexes.

@@ -1,22 +1,25 @@
 //! Where places stand, and what parts of values steps pick.
 
-ghost use Rattle.std.specs.Prelude.{◌≡◌, ◌≤◌, ℕ, List, IfOk, drop, map, option_and_then, option_map, slice_get, slice_index, take, unwrap_or};
+ghost use Rattle.std.specs.Prelude.{◌≡◌, ◌++◌, ◌≤◌, ℕ, List, IfOk, OnOk, drop, map, option_and_then, option_map, slice_get, slice_index, take, unwrap_or};
 ghost use Rattle.hl_meaning.specs.Layout.{kinds_of, words_of};
-ghost use Rattle.hl_meaning.specs.Places.{element_type, root_type};
+ghost use Rattle.hl_meaning.specs.Places.{element_type, root_type, variable_type};
 ghost use Rattle.hl_meaning.specs.Trees.{PathParts, more_parts};
-ghost use Rattle.hl_meaning.specs.Types.{void_type};
-ghost use Rattle.hl_meaning.specs.Views.{plain_expr, plain_location, plain_member, plain_part, plain_parts, plain_resource, plain_root, plain_structs, plain_ty};
+ghost use Rattle.hl_meaning.specs.Types.{struct_type, void_type};
+ghost use Rattle.hl_meaning.specs.Views.{plain_constant, plain_expr, plain_location, plain_member, plain_part, plain_parts, plain_resource, plain_root, plain_structs, plain_ty, plain_variable};
 ghost use Rattle.hl_source.specs.Offsets.{at_index, at_member, at_swizzle, element_of, further, holder_of, indexes_of_steps, literal_indexes, literal_word, member_of, picked_words, place_of, reached, slot_of, start_of};
 ghost use Rattle.hl_source.specs.Operations.{component_kind};
-ghost use Rattle.hl_interpreter.specs.HeldPlaces.{index_count, plain_holder, plain_place, plain_reached, plain_type};
+ghost use Rattle.hl_interpreter.specs.HeldPlaces.{index_count, literal_of, plain_holder, plain_place, plain_reached, plain_type};
 ghost use Rattle.hl_interpreter.specs.Runs.{context_of, run_context};
 
 use crate::components::{picked, word_at};
-use crate::layout::{kinds_of, words_of};
+use crate::layout::{Kinds, kinds_of, words_of};
 use crate::operations::component_kind;
 use crate::run::{Context, Run};
 use base_core::{NoMemory, Sequence, Words};
-use hl_meaning::{Expr, Form, HlType, Kind, Location, Member, PathPart, Program, Root};
+use hl_meaning::{
+    Constant, Expr, Form, HlType, Kind, Location, Member, PathPart, Program, Resource, Root,
+    StructDef, Variable,
+};
 use lane_core::Slot;
 use std::alloc::Global;
 
@@ -94,7 +97,7 @@ pub(crate) fn reached_kinds(
     alloc: Global,
     program: &Program,
     ty: ReachedType,
-) -> Result<Sequence<Kind>, NoMemory>
+) -> Result<Kinds, NoMemory>
     ensures { IfOk result (λ kinds. kinds ≡ kinds_of (plain_structs program.now.structs) (plain_type ty.entry)) }
 {
     match ty {
@@ -124,13 +127,39 @@ fn member_of<'a>(program: &'a Program, ty: ReachedType, number: u32) -> Option<&
     ensures { option_map (λ m. plain_member m.now) result ≡ member_of (plain_structs program.now.structs) (plain_type ty.entry) number }
 {
     match ty {
-        ReachedType::Held(HlType::Struct(structure)) => {
-            match program.structs.get(*structure as usize) {
-                Some(structure) => structure.members.get(number as usize),
-                None => None,
-            }
+        ReachedType::Held(ty) => held_member(program, ty, number),
+        ReachedType::Component(_) => None,
+        ReachedType::Nothing => None,
+    }
+}
+
+/// The same of a type that is held.
+fn held_member<'a>(program: &'a Program, ty: &HlType, number: u32) -> Option<&'a Member>
+    ensures { option_map (λ m. plain_member m.now) result ≡ member_of (plain_structs program.now.structs) (plain_ty ty.now) number }
+{
+    match ty {
+        HlType::Struct(structure) => {
+            struct_member(
+                program.structs.as_slice(),
+                *structure as usize,
+                number as usize,
+            )
         }
         _ => None,
+    }
+}
+
+/// The member of a number of the struct of a number.
+fn struct_member<'a>(
+    structs: &'a [StructDef],
+    structure: usize,
+    number: usize,
+) -> Option<&'a Member>
+    ensures { option_map (λ m. plain_member m.now) result ≡ member_of (plain_structs structs.now) (struct_type structure) number }
+{
+    match structs.get(structure) {
+        Some(structure) => structure.members.get(number),
+        None => None,
     }
 }
 
@@ -149,8 +178,19 @@ fn element_of<'a>(ty: ReachedType<'a>) -> ReachedType<'a>
     ensures { plain_type result ≡ element_of (plain_type ty.entry) }
 {
     match ty {
-        ReachedType::Held(HlType::Array(element, _)) => ReachedType::Held(element.get()),
-        _ => ReachedType::Component(reached_kind(ty)),
+        ReachedType::Held(ty) => held_element(ty),
+        ReachedType::Component(kind) => ReachedType::Component(kind),
+        ReachedType::Nothing => ReachedType::Component(Kind::Uint),
+    }
+}
+
+/// The same of a type that is held.
+fn held_element<'a>(ty: &'a HlType) -> ReachedType<'a>
+    ensures { plain_type result ≡ element_of (plain_ty ty.now) }
+{
+    match ty {
+        HlType::Array(element, _) => ReachedType::Held(element.get()),
+        _ => ReachedType::Component(component_kind(ty)),
     }
 }
 
@@ -171,17 +211,15 @@ fn at_index<'a>(
 fn at_swizzle<'a>(from: Reached<'a>, letters: &'a [u8]) -> Reached<'a>
     ensures { plain_reached result ≡ at_swizzle (plain_reached from.entry) letters.now }
 {
-    match letters {
-        [letter] => further(
-            from,
-            ReachedType::Component(reached_kind(from.ty)),
-            u32::from(*letter),
-        ),
-        _ => Reached {
+    if letters.len() == 1 {
+        let kind = reached_kind(from.ty);
+        further(from, ReachedType::Component(kind), u32::from(letters[0]))
+    } else {
+        Reached {
             ty: from.ty,
             offset: from.offset,
             letters,
-        },
+        }
     }
 }
 
@@ -210,7 +248,8 @@ fn index_count(part: &PathPart) -> usize
 {
     match part {
         PathPart::Index(_) => 1,
-        PathPart::Member(_) | PathPart::Swizzle(_) => 0,
+        PathPart::Member(_) => 0,
+        PathPart::Swizzle(_) => 0,
     }
 }
 
@@ -236,28 +275,44 @@ fn steps_to<'a>(
 fn root_type<'a>(context: &Context<'a>, root: &Root) -> ReachedType<'a>
     ensures { plain_type result ≡ unwrap_or (root_type (context_of context.now).scope (plain_root root.now)) void_type }
 {
+    let program = context.run.program;
     match root {
-        Root::Variable(number) => match context.function.variables.get(*number as usize) {
-            Some(variable) => ReachedType::Held(&variable.ty),
-            None => ReachedType::Nothing,
-        },
-        Root::Constant(number) => match context.run.program.constants.get(*number as usize) {
-            Some(constant) => ReachedType::Held(&constant.variable.ty),
-            None => ReachedType::Nothing,
-        },
-        Root::Shared(number) => match context.run.program.shared.get(*number as usize) {
-            Some(variable) => ReachedType::Held(&variable.ty),
-            None => ReachedType::Nothing,
-        },
-        Root::Element { resource, .. } => element_type(context.run.program, *resource),
+        Root::Variable(number) => {
+            variable_type(context.function.variables.as_slice(), *number as usize)
+        }
+        Root::Constant(number) => constant_type(program.constants.as_slice(), *number as usize),
+        Root::Shared(number) => variable_type(program.shared.as_slice(), *number as usize),
+        Root::Element { resource, .. } => {
+            element_type(program.resources.as_slice(), *resource as usize)
+        }
     }
 }
 
-/// The type of the elements of a structured buffer.
-fn element_type<'a>(program: &'a Program, resource: u32) -> ReachedType<'a>
-    ensures { plain_type result ≡ unwrap_or (option_and_then element_type (slice_get (map plain_resource program.now.resources) resource)) void_type }
+/// The type of the variable of a number.
+fn variable_type<'a>(variables: &'a [Variable], number: usize) -> ReachedType<'a>
+    ensures { plain_type result ≡ unwrap_or (variable_type (map plain_variable variables.now) number) void_type }
 {
-    match program.resources.get(resource as usize) {
+    match variables.get(number) {
+        Some(variable) => ReachedType::Held(&variable.ty),
+        None => ReachedType::Nothing,
+    }
+}
+
+/// The type of the constant of a number.
+fn constant_type<'a>(constants: &'a [Constant], number: usize) -> ReachedType<'a>
+    ensures { plain_type result ≡ unwrap_or (option_map (λ k. k.variable.ty) (slice_get (map plain_constant constants.now) number)) void_type }
+{
+    match constants.get(number) {
+        Some(constant) => ReachedType::Held(&constant.variable.ty),
+        None => ReachedType::Nothing,
+    }
+}
+
+/// The type of the elements of the structured buffer of a number.
+fn element_type<'a>(resources: &'a [Resource], number: usize) -> ReachedType<'a>
+    ensures { plain_type result ≡ unwrap_or (option_and_then element_type (slice_get (map plain_resource resources.now) number)) void_type }
+{
+    match resources.get(number) {
         Some(resource) => {
             if resource.raw {
                 ReachedType::Nothing
@@ -310,7 +365,9 @@ fn indexes_of_steps<'a>(root: &Root, indexes: &'a [u32]) -> &'a [u32]
                 &indexes[1..]
             }
         }
-        Root::Variable(_) | Root::Constant(_) | Root::Shared(_) => indexes,
+        Root::Variable(_) => indexes,
+        Root::Constant(_) => indexes,
+        Root::Shared(_) => indexes,
     }
 }
 
@@ -324,12 +381,7 @@ pub(crate) fn place_of<'a>(
 {
     let steps = indexes_of_steps(&location.root, indexes);
     let start = root_type(context, &location.root);
-    let at = steps_to(
-        context.run.program,
-        start,
-        location.parts.as_slice(),
-        steps,
-    )?;
+    let at = steps_to(context.run.program, start, location.parts.as_slice(), steps)?;
     Ok(Place {
         holder: holder_of(context.run, &location.root, indexes),
         at,
@@ -352,11 +404,20 @@ fn literal_indexes(alloc: Global, parts: &[PathPart]) -> Result<Words, NoMemory>
 {
     let mut indexes = Words::new(alloc);
     for part in parts {
-        if let PathPart::Index(index) = part {
-            indexes.push(literal_word(index.get()))?;
-        }
+        add_literal(part, &mut indexes)?;
     }
     Ok(indexes)
+}
+
+/// Adds the word of a step that is an index.
+fn add_literal(part: &PathPart, indexes: &mut Words) -> Result<(), NoMemory>
+    ensures { OnOk result (indexes.new ≡ indexes.old ++ literal_of (plain_part part.now)) }
+{
+    match part {
+        PathPart::Index(index) => indexes.push(literal_word(index.get())),
+        PathPart::Member(_) => Ok(()),
+        PathPart::Swizzle(_) => Ok(()),
+    }
 }
 
 /// The words of what was reached among the words of a value.

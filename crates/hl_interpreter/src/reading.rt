@@ -49,32 +49,36 @@ fn variable_words(state: &State, number: u32) -> &[u32]
     }
 }
 
+/// The word at an offset.
+///
+/// # Errors
+/// The fault `OutOfBounds` where it isn't there.
+fn word_of(words: &[u32], offset: u32) -> Result<u32, Stop>
+    ensures { (s : PlainState) → Meets (λ word. word) result s (word_of words.now offset s) }
+{
+    match words.get(offset as usize) {
+        Some(word) => Ok(*word),
+        None => Err(Stop::from(LaneFault::OutOfBounds)),
+    }
+}
+
 /// So many words from an offset on, each sum wrapped.
 ///
 /// # Errors
-/// The fault `OutOfBounds` at the first one that isn't there.
+/// As of `word_of`, at the first one that isn't there.
 fn words_from(alloc: Global, words: &[u32], offset: u32, count: u32) -> Result<Words, Stop>
     ensures { (s : PlainState) → Gives result s (each (word_of words.now) (word_offsets offset count) s) }
 {
     let mut found = Words::new(alloc);
     for more in 0..count {
-        let at = offset.wrapping_add(more);
-        match words.get(at as usize) {
-            Some(word) => found.push(*word)?,
-            None => return Err(Stop::from(LaneFault::OutOfBounds)),
-        }
+        let word = word_of(words, offset.wrapping_add(more))?;
+        found.push(word)?;
     }
     Ok(found)
 }
 
 /// One word of a groupshared variable.
-fn shared_word(
-    run: &Run,
-    number: u32,
-    size: u32,
-    at: u32,
-    state: &mut State,
-) -> Result<u32, Stop>
+fn shared_word(run: &Run, number: u32, size: u32, at: u32, state: &mut State) -> Result<u32, Stop>
     ensures { Meets (λ word. word) result (state_of run.now.replies.now state.new) (within at size (asks_word (SharedLoad (cell number at))) (state_of run.now.replies.now state.old)) }
 {
     if at >= size {

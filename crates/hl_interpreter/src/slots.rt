@@ -1,7 +1,9 @@
 //! The slot of each buffer: its class, its register space and its register.
 
-ghost use Rattle.std.specs.Prelude.{◌≡◌, ◌++◌, IfOk, filter_map, map};
-ghost use Rattle.hl_meaning.specs.Slots.{free_register, given_register, least_free, slot_after, slots_of};
+ghost use Rattle.std.specs.Prelude.{◌≡◌, ◌==◌, ◌++◌, ◌≤◌, [], IfOk, OnOk, filter_map, length, map};
+ghost use Rattle.std.specs.List.{cons_option, list_any};
+ghost use Rattle.base_core.specs.Limits.{most_parts};
+ghost use Rattle.hl_meaning.specs.Slots.{free_register, given_register, least_free, slot_after, slot_register, slots_of};
 ghost use Rattle.hl_meaning.specs.Views.{plain_resource};
 
 use base_core::{NoMemory, Sequence};
@@ -63,17 +65,39 @@ fn free_register(
     ensures { IfOk result (λ register. register ≡ free_register (map plain_resource all.now) earlier.now class) }
 {
     let mut taken = Sequence::new(alloc);
+    add_given(all, class, &mut taken)?;
+    add_taken(earlier, class, &mut taken)?;
+    Ok(least_free(taken.as_slice()))
+}
+
+/// Adds the registers of a class that buffers give.
+fn add_given(all: &[Resource], class: u8, taken: &mut Sequence<u32>) -> Result<(), NoMemory>
+    ensures { OnOk result (taken.new ≡ taken.old ++ filter_map (given_register class) (map plain_resource all.now)) }
+{
     for resource in all {
-        if let Some(register) = given_register(class, resource) {
-            taken.push(register)?;
-        }
+        push_if(given_register(class, resource), taken)?;
     }
+    Ok(())
+}
+
+/// Adds the registers of a class that earlier buffers have.
+fn add_taken(earlier: &[Slot], class: u8, taken: &mut Sequence<u32>) -> Result<(), NoMemory>
+    ensures { OnOk result (taken.new ≡ taken.old ++ filter_map (slot_register class) earlier.now) }
+{
     for slot in earlier {
-        if slot.class == class && slot.space == 0 {
-            taken.push(slot.register)?;
-        }
+        push_if(slot_register(class, *slot), taken)?;
     }
-    Ok(least_free(&taken))
+    Ok(())
+}
+
+/// Adds a register where there is one.
+fn push_if(register: Option<u32>, taken: &mut Sequence<u32>) -> Result<(), NoMemory>
+    ensures { OnOk result (taken.new ≡ taken.old ++ cons_option register []) }
+{
+    match register {
+        Some(register) => taken.push(register),
+        None => Ok(()),
+    }
 }
 
 /// The register that a buffer of a class gives, where it stands in space 0.
@@ -87,15 +111,34 @@ fn given_register(class: u8, resource: &Resource) -> Option<u32>
     }
 }
 
+/// The register of a slot of a class in space 0.
+fn slot_register(class: u8, slot: Slot) -> Option<u32>
+    ensures { result ≡ slot_register class slot }
+{
+    if slot.class == class && slot.space == 0 {
+        Some(slot.register)
+    } else {
+        None
+    }
+}
+
 /// The least number that isn't among some.
-fn least_free(taken: &Sequence<u32>) -> u32
+fn least_free(taken: &[u32]) -> u32
+    requires { length taken.now ≤ most_parts }
     ensures { result ≡ least_free taken.now }
 {
     let count = taken.len() as u32;
     for number in 0..count + 1 {
-        if !taken.as_slice().iter().any(|other| *other == number) {
+        if !is_among(taken, number) {
             return number;
         }
     }
     0
+}
+
+/// Whether a number is among some.
+fn is_among(taken: &[u32], number: u32) -> bool
+    ensures { result ≡ list_any (λ other. other == number) taken.now }
+{
+    taken.iter().any(|other| *other == number)
 }

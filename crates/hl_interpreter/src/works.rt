@@ -42,7 +42,10 @@ pub(crate) enum Told {
 #[derive(Clone, Copy, Debug, PartialEq, Eq)]
 pub(crate) enum WaveWork {
     Always(WaveKind),
-    BySign { signed: WaveKind, unsigned: WaveKind },
+    BySign {
+        signed: WaveKind,
+        unsigned: WaveKind,
+    },
 }
 
 /// What an intrinsic function does.

@@ -1,6 +1,6 @@
 //! How the words of places are written.
 
-ghost use Rattle.std.specs.Prelude.{◌≡◌, ℕ, ◌^◌, ◌<◌, ◌≤◌, List, length, zip};
+ghost use Rattle.std.specs.Prelude.{◌≡◌, ℕ, ◌^◌, ◌<◌, ◌≤◌, List, [], length, slice_get, slice_set, unwrap_or, zip};
 ghost use Rattle.lane_core.specs.declared.event.Reply.{Reply};
 ghost use Rattle.lane_core.specs.declared.event.Event.TheVariants.{SharedStore};
 ghost use Rattle.hl_source.specs.Memory.{cell, shared_size, within, word_offsets, write_variable_word, write_words};
@@ -18,21 +18,33 @@ use lane_core::{Cell, Event, LaneFault};
 use std::alloc::Global;
 use std::mem;
 
+/// A word written at a place.
+///
+/// # Errors
+/// The fault `OutOfBounds` where there is none.
+fn set_word(variable: &mut [u32], at: u32, word: u32) -> Result<(), Stop>
+    ensures { (number : ℕ) (s : PlainState) → number < length s.variables → variable_words s number ≡ variable.old
+        → Does result (with_variable number variable.new s) (no_value (write_variable_word number at word s)) }
+{
+    let at = at as usize;
+    if at >= variable.len() {
+        return Err(Stop::from(LaneFault::OutOfBounds));
+    }
+    variable[at] = word;
+    Ok(())
+}
+
 /// Words written from an offset on, each sum wrapped.
 ///
 /// # Errors
-/// The fault `OutOfBounds` at the first one that isn't there.
+/// As of `set_word`, at the first one that isn't there.
 fn set_words(variable: &mut [u32], offset: u32, words: &[u32]) -> Result<(), Stop>
     requires { length words.now < 2 ^ 32 }
     ensures { (number : ℕ) (s : PlainState) → number < length s.variables → variable_words s number ≡ variable.old
         → Does result (with_variable number variable.new s) (no_value (each (λ w. write_variable_word number w.0 w.1) (zip (word_offsets offset (length words.now)) words.now) s)) }
 {
     for (more, word) in words.iter().enumerate() {
-        let at = offset.wrapping_add(more as u32) as usize;
-        if at >= variable.len() {
-            return Err(Stop::from(LaneFault::OutOfBounds));
-        }
-        variable[at] = *word;
+        set_word(variable, offset.wrapping_add(more as u32), *word)?;
     }
     Ok(())
 }
@@ -47,6 +59,16 @@ fn set_nothing(words: &[u32]) -> Result<(), Stop>
     } else {
         Err(Stop::from(LaneFault::OutOfBounds))
     }
+}
+
+/// Takes the words of a variable out.
+fn take_variable(alloc: Global, number: usize, state: &mut State) -> Vec<u32>
+    requires { number < length state.old.variables.items }
+    ensures value { result.items ≡ unwrap_or (slice_get state.old.variables.items number) [] }
+    ensures variables { state.new.variables.items ≡ slice_set state.old.variables.items number [] }
+    ensures events { state.new.events ≡ state.old.events }
+{
+    mem::replace(&mut state.variables[number], Words::new(alloc)).into_vec()
 }
 
 /// Words of a variable written.
@@ -68,8 +90,7 @@ fn write_variable(
     if number >= state.variables.len() {
         return set_nothing(words);
     }
-    let before = mem::replace(&mut state.variables[number], Words::new(alloc));
-    let mut variable = before.into_vec();
+    let mut variable = take_variable(alloc, number, state);
     set_words(variable.as_mut_slice(), offset, words)?;
     state.variables[number] = Sequence::from_vec(variable)?;
     Ok(())

@@ -1,0 +1,94 @@
+-- What calls meet, by what their parts give.
+use Rattle.std.proofs.Common.{◌≡◌, ◌∙◌, refl, sym, ap, ℕ, suc, ◌+◌, List, [], ◌∷◌, ◌++◌, length, drop, map, slice_index_or, Option, Result, Ok, Err, arith}
+use Rattle.lane_core.specs.declared.event.Reply.{Reply}
+use Rattle.hl_meaning.specs.Trees.{Arg, Args, call_form, more_args, no_args, place_arg, place_type, value_arg}
+use Rattle.hl_meaning.specs.Types.{Ty}
+use Rattle.hl_meaning.specs.declared.program.Parameter.{Parameter}
+use Rattle.hl_source.specs.Expressions.{acts, argument, argument_of, arguments, copies_out, no_callee, parameters_of, starts}
+use Rattle.hl_source.specs.State.{Callee, Context, Progress, State, after, goes_with, joined}
+use Rattle.hl_interpreter.specs.declared.run.Stop.{Stop}
+use Rattle.hl_interpreter.specs.Operands.{interleaved}
+use Rattle.hl_interpreter.specs.declared.state.State.{State as HeldState}
+use Rattle.hl_interpreter.specs.Runs.{Does, Gives, Meets, form_value, state_of}
+use Rattle.hl_interpreter.proofs.Asking.{between}
+use Rattle.hl_interpreter.proofs.Meeting.{behind, behind-joined, behind-joined-stops, goes, same, stops}
+
+-- ---- the operands of arguments
+
+-- what the parameters start with
+pub starts-of : (indexes start : List (List ℕ)) → length indexes ≡ length start → starts (interleaved indexes start) ≡ start
+starts-of [] [] e = refl
+starts-of [] (x ∷ start) e = absurd (omega arith)
+starts-of (a ∷ indexes) [] e = absurd (omega arith)
+starts-of (a ∷ indexes) (x ∷ start) e = ap (λ l. x ∷ l) (starts-of indexes start (omega arith))
+
+-- one more argument
+pub interleaved-more : (indexes start : List (List ℕ)) (a x : List ℕ) → length indexes ≡ length start → interleaved indexes start ++ argument a x ≡ interleaved (indexes ++ a ∷ []) (start ++ x ∷ [])
+interleaved-more [] [] a x e = refl
+interleaved-more [] (y ∷ start) a x e = absurd (omega arith)
+interleaved-more (b ∷ indexes) [] a x e = absurd (omega arith)
+interleaved-more (b ∷ indexes) (y ∷ start) a x e = ap (λ l. b ∷ y ∷ l) (interleaved-more indexes start a x (omega arith))
+
+-- ---- a call
+
+module _ (c : Context) (ty : Ty) (s : State) (function : ℕ) (args : Args) where
+  abbrev parts : Progress (List (List ℕ))
+  parts = arguments c args (parameters_of c function) s
+
+  abbrev called : Callee
+  called = slice_index_or c.callees function no_callee
+
+  abbrev copied : List (List ℕ) → State → State → Progress (List ℕ)
+  copied operands t u = copies_out c args operands u.variables (record t { exchange = u.exchange })
+
+  pub call-first : {A : Type 0} (view : A → List (List ℕ)) (e : Stop) (t : State) → Meets view (Err e) t (arguments c args (parameters_of c function) s) → Gives (Err e) t (form_value c ty (call_form function args) s)
+  call-first view e t h = stops view (λ w. w) e t parts (acts c ty (call_form function args)) h
+
+  module _ (operands : List (List ℕ)) (t : State) (variables : List (List ℕ)) (h : arguments c args (parameters_of c function) s ≡ goes_with operands t) (is : starts operands ≡ variables) where
+    run-same : called variables t.exchange ≡ called (starts operands) t.exchange
+    run-same = ap (λ v. called v t.exchange) (sym is)
+
+    pub call-second : (e : Stop) (u : State) → Gives (Err e) u (slice_index_or c.callees function no_callee variables t.exchange) → Gives (Err e) u (form_value c ty (call_form function args) s)
+    call-second e u k =
+        goes (λ w. w) operands (Err e) t u parts (acts c ty (call_form function args)) h
+        (stops (λ w. w) (λ w. w) e u (called (starts operands) t.exchange) (λ result ended. after (copied operands t ended) (λ _ s'. goes_with result s'))
+        (same (λ w. w) (Err e) u _ _ run-same k))
+
+    module _ (w : List ℕ) (u : State) (k : slice_index_or c.callees function no_callee variables t.exchange ≡ goes_with w u) where
+      pub call-third : (e : Stop) (v : State) → Does (Err e) v (copies_out c args operands u.variables (record t { exchange = u.exchange })) → Gives (Err e) v (form_value c ty (call_form function args) s)
+      call-third e v l =
+          goes (λ x. x) operands (Err e) t v parts (acts c ty (call_form function args)) h
+          (goes (λ x. x) w (Err e) u v (called (starts operands) t.exchange) (λ result ended. after (copied operands t ended) (λ _ s'. goes_with result s')) (sym run-same ∙ k)
+          (stops {A = Unit {0}} (λ _. []) (λ x. x) e v (copied operands t u) (λ _ s'. goes_with w s') l))
+
+      pub call-goes : (v : State) → copies_out c args operands u.variables (record t { exchange = u.exchange }) ≡ goes_with [] v → Gives (Ok w) v (form_value c ty (call_form function args) s)
+      call-goes v l =
+          goes (λ x. x) operands (Ok w) t v parts (acts c ty (call_form function args)) h
+          (goes (λ x. x) w (Ok w) u v (called (starts operands) t.exchange) (λ result ended. after (copied operands t ended) (λ _ s'. goes_with result s')) (sym run-same ∙ k)
+          (goes (λ x. x) [] (Ok w) v v (copied operands t u) (λ _ s'. goes_with w s') l refl))
+
+-- ---- arguments, one after another
+
+module _ (c : Context) (first : Arg) (rest : Args) (p : Parameter) (parameters : List Parameter) (indexes start : List (List ℕ)) (s : State) (whole : Progress (List (List ℕ)))
+    (is : whole ≡ behind (interleaved indexes start) (arguments c (more_args first rest) (p ∷ parameters) s)) where
+  pub argument-stops : {A B : Type 0} (view : A → List (List ℕ)) (other : B → List (List ℕ)) (e : Stop) (t : State) → Meets view (Err e) t (argument_of c first p.copying s) → Meets other (Err e) t whole
+  argument-stops view other e t h =
+      same other (Err e) t _ _ (sym is) (behind-joined-stops view (interleaved indexes start) (argument_of c first p.copying s) (λ s'. arguments c rest parameters s') other e t h)
+
+  pub argument-next : (t : State) (a x : List ℕ) → length indexes ≡ length start → argument_of c first p.copying s ≡ goes_with (argument a x) t
+      → whole ≡ behind (interleaved (indexes ++ a ∷ []) (start ++ x ∷ [])) (arguments c rest parameters t)
+  argument-next t a x e h =
+      is ∙ (behind-joined (interleaved indexes start) (argument a x) t (argument_of c first p.copying s) (λ s'. arguments c rest parameters s') h ∙
+      ap (λ l. behind l (arguments c rest parameters t)) (interleaved-more indexes start a x e))
+
+-- ---- behind a call
+
+-- the arguments' values are written back with the caller's variables
+pub copied-same : (c : Context) (args : Args) (replies : List Reply) (held indexes start : List (List ℕ)) (parameters : List (List ℕ)) (before ended : HeldState) (own : List (List ℕ))
+    → held ≡ indexes → parameters ≡ ended.variables.items → own ≡ before.variables.items
+    → copies_out c args (interleaved held start) parameters (between replies own ended.events)
+    ≡ copies_out c args (interleaved indexes start) (state_of replies ended).variables (record (state_of replies before) { exchange = (state_of replies ended).exchange })
+copied-same c args replies held indexes start parameters before ended own a b d =
+    ap (λ l. copies_out c args (interleaved l start) parameters (between replies own ended.events)) a ∙
+    (ap (λ l. copies_out c args (interleaved indexes start) l (between replies own ended.events)) b ∙
+    ap (λ l. copies_out c args (interleaved indexes start) ended.variables.items (between replies l ended.events)) d)

@@ -1,0 +1,16 @@
+use Rattle.std.proofs.Common.{◌∙◌, ap, sym}
+use Rattle.hl_meaning.specs.Views.{plain_location}
+use Rattle.hl_source.specs.Memory.{read_reached}
+use Rattle.hl_source.specs.Offsets.{Place}
+use Rattle.hl_interpreter.specs.Runs.{context_of, state_of}
+use Rattle.hl_interpreter.proofs.Exits.{memory-exit}
+use Rattle.hl_interpreter.proofs.Meeting.{same}
+use Rattle.hl_interpreter.proofs.memory.read_place.Goals as goal
+
+pub returns-in_err-place : goal.returns-in_err-place
+returns-in_err-place c = memory-exit (λ w. w) c.from_residual.result _ _ c.from_residual.ensures.1
+
+pub returns : goal.returns
+returns c =
+    let s = state_of c.args.context.now.run.now.replies.now c.args.state.now in
+    same (λ w. w) c.read_reached.result _ _ _ (ap (λ (p : Place). read_reached (context_of c.args.context.now) p.holder p.at s) c.in_ok-place.ensures) c.read_reached.ensures

@@ -7,6 +7,7 @@ use std::test::Fail;
 use trace_driver::trace;
 
 /// The replies behind the words of the first lane, a source, and the lines of its run.
+#[derive(Drop)]
 struct Row {
     replies: &'static [&'static str],
     source: &'static [u8],

@@ -1,12 +1,12 @@
 -- What words ask for, from what is read of them.
-use Rattle.std.proofs.Common.{◌≡◌, refl, sym, ap, ◌∙◌, subst, ℕ, zero, suc, ◌<◌, ◌≤◌, List, [], ◌∷◌, drop, length, map, get_or, take, arith}
+use Rattle.std.proofs.Common.{◌≡◌, refl, sym, ap, ◌∙◌, subst, ℕ, zero, suc, ◌-◌, ◌<◌, ◌≤◌, List, [], ◌∷◌, drop, length, map, get_or, take, arith}
 use Rattle.std.specs.Prelude.{Option, None, Some, option_map, option_and_then, slice_get, slice_range}
-use Rattle.std.proofs.lemmas.List.{drop-map, take-map}
+use Rattle.std.proofs.lemmas.List.{drop-map, length-drop, length-map, length-take-le, take-map, take_rest}
 use Rattle.std.proofs.lemmas.Option.{none-some, same_Some}
 use Rattle.lane_core.specs.declared.event.Reply.{Reply}
 use Rattle.hl_lexer.specs.Tokens.{IsName}
 use Rattle.hl_interpreter.specs.declared.run.LanePlace.{LanePlace}
-use Rattle.trace_driver.specs.Requests.{Asks, IsUsage, each_of, lane_of, number_of, reply_of}
+use Rattle.trace_driver.specs.Requests.{Asks, each_of, lane_of, number_of, reply_of}
 use Rattle.trace_driver.specs.declared.request.Request.{Request}
 
 -- ---- lists
@@ -16,11 +16,6 @@ pub at_place : {A B : Type 0} (f : A → B) (xs : List A) (i : ℕ) (x : A) → 
 at_place f [] i x within e = absurd (omega (arith, within))
 at_place f (y ∷ xs) zero x within e = ap (λ z. Some (f z)) (sym e)
 at_place f (y ∷ xs) (suc i) x within e = at_place f xs i x (omega (arith, within)) e
-
-past_end : {A : Type 0} (xs : List A) (i : ℕ) → length xs ≤ i → slice_get xs i ≡ None
-past_end [] i past = refl
-past_end (x ∷ xs) zero past = absurd (omega (arith, past))
-past_end (x ∷ xs) (suc i) past = past_end xs i (omega (arith, past))
 
 pub map-range : {A B : Type 0} (f : A → B) (xs : List A) → slice_range (map f xs) 1 9 ≡ map f (slice_range xs 1 9)
 map-range f xs = ap (take 8) (drop-map f 1 xs) ∙ take-map f 8 (drop 1 xs)
@@ -36,36 +31,35 @@ length_each {B = B} f (x ∷ xs) ys e = by (f x) (each_of f xs) (λ more r. leng
     by (Some y) None r e = absurd (none-some ys e)
     by (Some y) (Some more) r e = let n : length more ≡ length xs = r more refl in sym (ap length (same_Some (y ∷ more) ys e)) ∙ ap suc n
 
--- ---- words that ask for no lane
+-- the numbers of a lane are eight
+pub eight : {A : Type 0} (f : A → List ℕ) (held : List A) (numbers : List ℕ) → 10 ≤ length held → each_of (number_of 32) (map f (slice_range held 1 9)) ≡ Some numbers → length numbers ≡ 8
+eight f held numbers long e =
+    length_each (number_of 32) (map f (slice_range held 1 9)) numbers e
+    ∙ (length-map (slice_range held 1 9) f ∙ length-take-le 8 (drop 1 held) (omega (arith, length-drop 1 held, long)))
 
-module _ (words : List (List ℕ)) where
-  pub too_few : length words < 10 → IsUsage words
-  too_few few request h = none-some request.turns (sym (ap (option_and_then (number_of 64)) (past_end words 9 (omega (arith, few)))) ∙ h.turns)
+-- ---- words that ask for a lane
 
-  pub no_name : (name : List ℕ) → slice_get words 0 ≡ Some name → ¬ IsName name → IsUsage words
-  no_name name at not request h = not (subst IsName (same_Some request.entry name (sym h.entry ∙ at)) h.named)
+module _ {A : Type 0} (f : A → List ℕ) (held : List A) (long : 10 ≤ length held) where
+  -- what is read of the words, each part where it stands
+  pub asked : (first again tenth : A) (named name word : List ℕ) (lane : LanePlace) (turns : ℕ) (numbers slice : List ℕ) (replies : List Reply)
+      → first ≡ get_or held 0 first → named ≡ f first → IsName named → again ≡ get_or held 0 again → name ≡ f again
+      → tenth ≡ get_or held 9 tenth → word ≡ f tenth → number_of 64 word ≡ Some turns
+      → each_of (number_of 32) (map f (slice_range held 1 9)) ≡ Some numbers → slice ≡ numbers → lane ≡ lane_of slice
+      → each_of reply_of (map f (take (length held - 10) (drop 10 held))) ≡ Some replies
+      → Asks (map f held) (record { entry = name; lane = lane; turns = turns; replies = replies })
+  asked first again tenth named name word lane turns numbers slice replies at-first named-is is-name at-again name-is at-tenth word-is t n slice-is lane-is r = record {
+    entry = entry;
+    named = subst IsName same is-name;
+    lane = ap (λ (ws : List (List ℕ)). option_map lane_of (each_of (number_of 32) ws)) (map-range f held)
+        ∙ (ap (λ (found : Option (List ℕ)). option_map lane_of found) n ∙ ap (λ (l : LanePlace). Some l) (ap lane_of (sym slice-is) ∙ sym lane-is));
+    turns = ap (λ (found : Option (List ℕ)). option_and_then (number_of 64) found) (at_place f held 9 tenth (omega (arith, long)) at-tenth ∙ ap (λ (w : List ℕ). Some w) (sym word-is)) ∙ t;
+    replies = ap (λ (ws : List (List ℕ)). each_of reply_of ws) (drop-map f 10 held) ∙ (ap (λ (xs : List A). each_of reply_of (map f xs)) (sym (take_rest held 10)) ∙ r);
+  } where
+    entry : slice_get (map f held) 0 ≡ Some name
+    entry = at_place f held 0 again (omega (arith, long)) at-again ∙ ap (λ (w : List ℕ). Some w) (sym name-is)
 
-  pub no_turns : (word : List ℕ) → slice_get words 9 ≡ Some word → number_of 64 word ≡ None → IsUsage words
-  no_turns word at none request h = none-some request.turns (sym (ap (option_and_then (number_of 64)) at ∙ none) ∙ h.turns)
-
-  pub no_lane : each_of (number_of 32) (slice_range words 1 9) ≡ None → IsUsage words
-  no_lane none request h = none-some request.lane (sym (ap (option_map lane_of) none) ∙ h.lane)
-
-  pub no_replies : each_of reply_of (drop 10 words) ≡ None → IsUsage words
-  no_replies none request h = none-some request.replies (sym none ∙ h.replies)
-
-  -- ---- words that ask for one
-
-  pub asked : (name word : List ℕ) (turns : ℕ) (numbers : List ℕ) (replies : List Reply) → slice_get words 0 ≡ Some name → IsName name
-      → slice_get words 9 ≡ Some word → number_of 64 word ≡ Some turns → each_of (number_of 32) (slice_range words 1 9) ≡ Some numbers → each_of reply_of (drop 10 words) ≡ Some replies
-      → Asks words (record { entry = name; lane = lane_of numbers; turns = turns; replies = replies })
-  asked name word turns numbers replies first named tenth t n r = record {
-    entry = first;
-    named = named;
-    lane = ap (option_map lane_of) n;
-    turns = ap (option_and_then (number_of 64)) tenth ∙ t;
-    replies = r;
-  }
+    same : named ≡ name
+    same = named-is ∙ same_Some (f first) name (sym (at_place f held 0 first (omega (arith, long)) at-first) ∙ entry)
 
 same_fields : (e f : List ℕ) (l m : LanePlace) (t u : ℕ) (r s : List Reply) → e ≡ f → l ≡ m → t ≡ u → r ≡ s
     → let one : Request = record { entry = e; lane = l; turns = t; replies = r } in one ≡ record { entry = f; lane = m; turns = u; replies = s }

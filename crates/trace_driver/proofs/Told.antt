@@ -163,6 +163,21 @@ never_usage (BadProgram NoRoomForProgram place) same = cc
 never_usage Unbuilt same = cc
 never_usage NoRoomToCompile same = cc
 
+-- the fault of a text is no form that isn't built
+pub built : (text entry : List ℕ) (fault : CompileFault) → HasProgramFault text entry fault → NotBuilt ≢ refusal_of_compile fault
+built text entry TextTooLong h same = cc
+built text entry (Lex (NoToken place)) h same = cc
+built text entry (Lex (LargeNumber place)) h same = cc
+built text entry (Lex MoreTokens) h same = cc
+built text entry (Lex NoRoomForTokens) h same = cc
+built text entry (Parse (NoProgram at) place) h same = cc
+built text entry (Parse DeepTree place) h same = cc
+built text entry (Parse NoRoomForTree place) h same = cc
+built text entry (BadProgram (BrokenRule rule at) place) h same = cc
+built text entry (BadProgram NoRoomForProgram place) h same = cc
+built text entry Unbuilt h same = h
+built text entry NoRoomToCompile h same = cc
+
 pub stands_other : {I : Type 0} (left : I → Option (List ℕ)) (taken faults : I → ℕ) (old new : I) (request : Request) (refusal : Refusal)
     → StandsFor left taken old new faults request refusal → refusal ≢ Usage
 stands_other left taken faults old new request _ (read_failed risen) same = cc

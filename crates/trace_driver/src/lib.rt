@@ -1,6 +1,7 @@
 //! What one lane of a source asks, as lines of text.
 #![tactic(auto)]
 
+pub mod laws;
 mod lines;
 mod request;
 mod source;

@@ -80,3 +80,19 @@ pub returns-clause-refusals : goal.returns-clause-refusals
 returns-clause-refusals g c = λ request words.
     stops_told g.N.Sink.written g.N.Sink.faults c.args.notes.now c.refuse-in-Err-run.new.notes c.in-Err-run.refusal c.refuse-in-Err-run.result request (g.I.Source.left c.args.input.now)
     c.refuse-in-Err-run.ensures.told (stands_other g.I.Source.left g.I.Source.taken g.I.Source.faults c.args.input.now c.run.new.input c.in-Ok-Some.request c.in-Err-run.refusal c.in-Err-run.ensures.cause)
+
+pub returns-in-Ok-None-clause-refusals : goal.returns-in-Ok-None-clause-refusals
+returns-in-Ok-None-clause-refusals g c = λ request asked.
+    absurd (MatchOption-at_none (IsUsage (map string_bytes c.args.words.now)) (Asks (map string_bytes c.args.words.now)) c.in-Ok-None.field-0-is c.in-Ok-None.ensures request asked)
+
+pub returns-in-Ok-None-clause-complete : goal.returns-in-Ok-None-clause-complete
+returns-in-Ok-None-clause-complete g c = λ request asked calm quiet.
+    absurd (MatchOption-at_none (IsUsage (map string_bytes c.args.words.now)) (Asks (map string_bytes c.args.words.now)) c.in-Ok-None.field-0-is c.in-Ok-None.ensures request asked)
+
+pub returns-in-Ok-clause-other_words : goal.returns-in-Ok-clause-other_words
+returns-in-Ok-clause-other_words g c = λ usage.
+    absurd (usage c.in-Ok-Some.request (MatchOption-at_some (IsUsage (map string_bytes c.args.words.now)) (Asks (map string_bytes c.args.words.now)) c.in-Ok-Some.request c.in-Ok-Some.field-0-is c.in-Ok-Some.ensures))
+
+pub returns-clause-other_words : goal.returns-clause-other_words
+returns-clause-other_words g c = λ usage.
+    absurd (usage c.in-Ok-Some.request (MatchOption-at_some (IsUsage (map string_bytes c.args.words.now)) (Asks (map string_bytes c.args.words.now)) c.in-Ok-Some.request c.in-Ok-Some.field-0-is c.in-Ok-Some.ensures))

@@ -1,7 +1,6 @@
 -- A text has at most one list of lines for a request, since it has at most one tree, and that at most one program.
-use Rattle.std.proofs.Common.{◌≡◌, ◌∙◌, sym, ap, subst, List, Some}
+use Rattle.std.proofs.Common.{◌≡◌, ◌∙◌, sym, ap, subst, List}
 use Rattle.std.proofs.lemmas.Option.{same_Some}
-use Rattle.lane_core.specs.Lane.{Run}
 use Rattle.hl_lexer.specs.Laws.{AtMostOneTokenList}
 use Rattle.hl_lexer.specs.Tokens.{Lexeme}
 use Rattle.hl_parser.specs.Grammar.{SpellsProgram}

@@ -5,8 +5,7 @@ ghost use Rattle.trace_driver.specs.Laws.{AtMostOneRequest, AtMostOneTrace, Neve
 /// Words ask for at most one lane.
 pub fn at_most_one_request()
     ensures { AtMostOneRequest }
-{
-}
+{}
 
 /// A text has at most one list of lines for a request.
 pub fn at_most_one_trace()
@@ -20,5 +19,4 @@ pub fn at_most_one_trace()
 /// No text is refused as one that isn't built.
 pub fn never_not_built()
     ensures { NeverNotBuilt }
-{
-}
+{}

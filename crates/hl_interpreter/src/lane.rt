@@ -2,7 +2,8 @@
 
 ghost use Rattle.std.specs.Prelude.{◌≡◌, [], IfOk, Some, map, slice_index_or};
 ghost use Rattle.hl_meaning.specs.Held.{plain_program};
-ghost use Rattle.hl_meaning.specs.Views.{plain_function};
+ghost use Rattle.hl_meaning.specs.Slots.{slots_of};
+ghost use Rattle.hl_meaning.specs.Views.{plain_function, plain_resource};
 ghost use Rattle.hl_source.specs.Expressions.{no_callee};
 ghost use Rattle.hl_source.specs.SourceLane.{ended, source_lane};
 ghost use Rattle.lane_core.specs.Lane.{standing};
@@ -15,7 +16,7 @@ use crate::slots::slots_of;
 use crate::state::State;
 use base_core::{NoMemory, Sequence};
 use hl_meaning::Program;
-use lane_core::{Asked, Event, Reply};
+use lane_core::{Asked, Event, Reply, Slot};
 use std::alloc::Global;
 
 /// A run of a lane: the events that had a reply, in order, and where the lane stands after them.
@@ -39,12 +40,27 @@ pub fn run_lane(
     ensures { IfOk result (λ run. source_lane (plain_program program.now) turns (lane_of lane) replies.now ≡ Some (run_of run)) }
 {
     let slots = slots_of(alloc, program.resources.as_slice())?;
+    run_in(alloc, program, slots.as_slice(), &lane, replies, turns)
+}
+
+/// The run of a lane of a program whose buffers have these slots.
+fn run_in(
+    alloc: Global,
+    program: &Program,
+    slots: &[Slot],
+    lane: &LanePlace,
+    replies: &[Reply],
+    turns: u64,
+) -> Result<LaneRun, NoMemory>
+    requires { slots.now ≡ slots_of (map plain_resource program.now.resources) }
+    ensures { IfOk result (λ run. source_lane (plain_program program.now) turns (lane_of lane.now) replies.now ≡ Some (run_of run)) }
+{
     let run = Run {
         alloc,
-        program,
-        slots: slots.as_slice(),
-        lane: &lane,
-        replies,
+        program: &*program,
+        slots: &*slots,
+        lane: &*lane,
+        replies: &*replies,
         turns,
     };
     let inputs = inputs(&run)?;

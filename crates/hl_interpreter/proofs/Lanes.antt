@@ -22,7 +22,7 @@ first-asked run before none = sym (ap (λ (events : List Event). record { asked 
 pub lane-done : (run : Run) (before behind : HeldState) (outcome : Asked) → run.slots.now ≡ slots_of (map plain_resource run.program.now.resources) → before.events ≡ []
     → before.variables.items ≡ inputs (plain_program run.program.now) (lane_of run.lane.now) (slice_get (plain_program run.program.now).functions run.program.now.entry)
     → ended (slice_index_or (callees_behind run [] [] (map plain_function run.program.now.functions)) run.program.now.entry no_callee before.variables.items (state_of run.replies.now before).exchange)
-      ≡ standing (state_of run.replies.now behind).exchange outcome
+    ≡ standing (state_of run.replies.now behind).exchange outcome
     → source_lane (plain_program run.program.now) run.turns (lane_of run.lane.now) run.replies.now ≡ Some (record { events = behind.events; outcome = outcome })
 unfolding source_lane
 lane-done run before behind outcome slots none is runs =

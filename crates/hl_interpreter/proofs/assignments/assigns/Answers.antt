@@ -17,7 +17,7 @@ returns-in_err-written c =
     let common = plain_ty c.args.common.now in
     let to = plain_location c.args.to.now in
     let seen : assigned c.args.op common (plain_ty c.args.to.now.ty) c.as_slice.result.now c.args.words t ≡ assigned c.args.op common (place_type to) c.in_ok-before.before c.args.words t =
-        ap (λ l. assigned c.args.op common (plain_ty c.args.to.now.ty) l c.args.words t) c.as_slice.ensures.value ∙ ap (λ y. assigned c.args.op common y c.in_ok-before.before c.args.words t) (sym (place-type c.args.to.now)) in
+    ap (λ l. assigned c.args.op common (plain_ty c.args.to.now.ty) l c.args.words t) c.as_slice.ensures.value ∙ ap (λ y. assigned c.args.op common y c.in_ok-before.before c.args.words t) (sym (place-type c.args.to.now)) in
     let e = c.in_err-written.field-0.0 in
     stop-exit (λ w. w) c.from_residual-in_err-written.result e t _ c.from_residual-in_err-written.ensures.1
     (assigns-second context to c.args.op common c.args.old c.args.indexes.now c.args.words s t c.in_ok-before.before c.in_ok-before.ensures e
@@ -31,7 +31,7 @@ returns-in_err-write_place c =
     let common = plain_ty c.args.common.now in
     let to = plain_location c.args.to.now in
     let seen : assigned c.args.op common (plain_ty c.args.to.now.ty) c.as_slice.result.now c.args.words t ≡ assigned c.args.op common (place_type to) c.in_ok-before.before c.args.words t =
-        ap (λ l. assigned c.args.op common (plain_ty c.args.to.now.ty) l c.args.words t) c.as_slice.ensures.value ∙ ap (λ y. assigned c.args.op common y c.in_ok-before.before c.args.words t) (sym (place-type c.args.to.now)) in
+    ap (λ l. assigned c.args.op common (plain_ty c.args.to.now.ty) l c.args.words t) c.as_slice.ensures.value ∙ ap (λ y. assigned c.args.op common y c.in_ok-before.before c.args.words t) (sym (place-type c.args.to.now)) in
     let u = state_of c.args.context.now.run.now.replies.now c.write_place.new.state in
     let w = c.in_ok-written.written in
     let e = c.in_err-write_place.field-0.0 in
@@ -47,7 +47,7 @@ returns-then-old c =
     let common = plain_ty c.args.common.now in
     let to = plain_location c.args.to.now in
     let seen : assigned c.args.op common (plain_ty c.args.to.now.ty) c.as_slice.result.now c.args.words t ≡ assigned c.args.op common (place_type to) c.in_ok-before.before c.args.words t =
-        ap (λ l. assigned c.args.op common (plain_ty c.args.to.now.ty) l c.args.words t) c.as_slice.ensures.value ∙ ap (λ y. assigned c.args.op common y c.in_ok-before.before c.args.words t) (sym (place-type c.args.to.now)) in
+    ap (λ l. assigned c.args.op common (plain_ty c.args.to.now.ty) l c.args.words t) c.as_slice.ensures.value ∙ ap (λ y. assigned c.args.op common y c.in_ok-before.before c.args.words t) (sym (place-type c.args.to.now)) in
     let u = state_of c.args.context.now.run.now.replies.now c.write_place.new.state in
     let w = c.in_ok-written.written in
     assigns-goes context to c.args.op common c.args.old c.args.indexes.now c.args.words s t c.in_ok-before.before c.in_ok-before.ensures w (sym seen ∙ c.in_ok-written.ensures t) u true
@@ -61,7 +61,7 @@ returns-else-old c =
     let common = plain_ty c.args.common.now in
     let to = plain_location c.args.to.now in
     let seen : assigned c.args.op common (plain_ty c.args.to.now.ty) c.as_slice.result.now c.args.words t ≡ assigned c.args.op common (place_type to) c.in_ok-before.before c.args.words t =
-        ap (λ l. assigned c.args.op common (plain_ty c.args.to.now.ty) l c.args.words t) c.as_slice.ensures.value ∙ ap (λ y. assigned c.args.op common y c.in_ok-before.before c.args.words t) (sym (place-type c.args.to.now)) in
+    ap (λ l. assigned c.args.op common (plain_ty c.args.to.now.ty) l c.args.words t) c.as_slice.ensures.value ∙ ap (λ y. assigned c.args.op common y c.in_ok-before.before c.args.words t) (sym (place-type c.args.to.now)) in
     let u = state_of c.args.context.now.run.now.replies.now c.write_place.new.state in
     let w = c.in_ok-written.written in
     assigns-goes context to c.args.op common c.args.old c.args.indexes.now c.args.words s t c.in_ok-before.before c.in_ok-before.ensures w (sym seen ∙ c.in_ok-written.ensures t) u false

@@ -517,8 +517,8 @@ arguments-loop-at-preserved t c =
     let S = state_of c.args.context.now.run.now.replies.now c.args.state.now in
     record {
       whole = argument-next C (plain_arg c.index-items-at.result) (plain_args (drop (c.loop-at.at + 1) c.as_slice-items.result.now)) (get_or c.args.parameters.now c.loop-at.at (record { variable = 0; copying = CopyIn; semantic = None })) (drop (c.loop-at.at + 1) c.args.parameters.now) c.loop-at.indexes c.loop-at.starts (state_of c.args.context.now.run.now.replies.now c.loop-at.state) (arguments C (plain_args c.args.args.now) c.args.parameters.now S) (c.loop-at.invariant.whole ∙ (ap (λ l. behind (interleaved c.loop-at.indexes c.loop-at.starts) (arguments C (plain_args l) (drop c.loop-at.at c.args.parameters.now) (state_of c.args.context.now.run.now.replies.now c.loop-at.state))) (drop-next c.as_slice-items.result.now c.loop-at.at c.index-items-at.result (omega arith) c.index-items-at.is) ∙ ap (λ l. behind (interleaved c.loop-at.indexes c.loop-at.starts) (arguments C (plain_args (c.index-items-at.result ∷ drop (c.loop-at.at + 1) c.as_slice-items.result.now)) l (state_of c.args.context.now.run.now.replies.now c.loop-at.state))) (drop-next c.args.parameters.now c.loop-at.at (get_or c.args.parameters.now c.loop-at.at (record { variable = 0; copying = CopyIn; semantic = None })) (omega arith) (get_or_default c.args.parameters.now c.loop-at.at (record { variable = 0; copying = CopyIn; semantic = None }) (get_or c.args.parameters.now c.loop-at.at (record { variable = 0; copying = CopyIn; semantic = None })) (omega arith))))) (state_of c.args.context.now.run.now.replies.now c.argument.new.state) c.in_ok-words.field-0.indexes c.in_ok-words.field-0.start c.loop-at.invariant.both (sym (ap (λ k. argument_of C (plain_arg c.index-items-at.result) k (state_of c.args.context.now.run.now.replies.now c.loop-at.state)) (c.copying_at.ensures (get_or c.args.parameters.now c.loop-at.at (record { variable = 0; copying = CopyIn; semantic = None })) (get_or_default c.args.parameters.now c.loop-at.at (record { variable = 0; copying = CopyIn; semantic = None }) (get_or c.args.parameters.now c.loop-at.at (record { variable = 0; copying = CopyIn; semantic = None })) (omega arith)))) ∙ c.in_ok-words.ensures) ∙
-        (ap (λ l. behind (interleaved l (c.loop-at.starts ++ c.in_ok-words.field-0.start ∷ [])) (arguments C (plain_args (drop (c.loop-at.at + 1) c.as_slice-items.result.now)) (drop (c.loop-at.at + 1) c.args.parameters.now) (state_of c.args.context.now.run.now.replies.now c.argument.new.state))) (sym c.in_ok-push.ensures.ok) ∙
-        ap (λ l. behind (interleaved c.push.new.self l) (arguments C (plain_args (drop (c.loop-at.at + 1) c.as_slice-items.result.now)) (drop (c.loop-at.at + 1) c.args.parameters.now) (state_of c.args.context.now.run.now.replies.now c.argument.new.state))) (sym c.in_ok-push-2.ensures.ok));
+          (ap (λ l. behind (interleaved l (c.loop-at.starts ++ c.in_ok-words.field-0.start ∷ [])) (arguments C (plain_args (drop (c.loop-at.at + 1) c.as_slice-items.result.now)) (drop (c.loop-at.at + 1) c.args.parameters.now) (state_of c.args.context.now.run.now.replies.now c.argument.new.state))) (sym c.in_ok-push.ensures.ok) ∙
+          ap (λ l. behind (interleaved c.push.new.self l) (arguments C (plain_args (drop (c.loop-at.at + 1) c.as_slice-items.result.now)) (drop (c.loop-at.at + 1) c.args.parameters.now) (state_of c.args.context.now.run.now.replies.now c.argument.new.state))) (sym c.in_ok-push-2.ensures.ok));
       both = ap length c.in_ok-push.ensures.ok ∙ (length_push c.loop-at.indexes c.in_ok-words.field-0.indexes ∙ (ap (λ n. n + 1) c.loop-at.invariant.both ∙ (sym (length_push c.loop-at.starts c.in_ok-words.field-0.start) ∙ sym (ap length c.in_ok-push-2.ensures.ok))));
     }
 

@@ -1,5 +1,5 @@
 -- Expressions of each form, and what they do with their operands.
-use Rattle.std.proofs.Common.{◌≡◌, ◌∙◌, refl, sym, ap, ℕ, List, [], ◌∷◌, Option, Result}
+use Rattle.std.proofs.Common.{◌≡◌, refl, sym, ap, ℕ, List, [], ◌∷◌, Option, Result}
 use Rattle.lane_core.specs.Words.{wrapped}
 use Rattle.hl_meaning.specs.declared.expression.Expr.{Expr as HeldExpr}
 use Rattle.hl_meaning.specs.declared.expression.Form.{Form as HeldForm}

@@ -1,12 +1,12 @@
 -- Events that are asked, and their replies.
-use Rattle.std.proofs.Common.{◌≡◌, ◌∙◌, refl, sym, ap, ℕ, zero, suc, ◌+◌, ◌%◌, ◌^◌, ◌<◌, ◌≤◌, List, [], ◌∷◌, ◌++◌, drop, get_or, length, map, slice_index, All, arith}
+use Rattle.std.proofs.Common.{◌≡◌, ◌∙◌, sym, ap, ℕ, ◌+◌, ◌^◌, ◌<◌, ◌≤◌, List, [], ◌∷◌, ◌++◌, drop, get_or, length, map, slice_index, arith}
 use Rattle.std.proofs.lemmas.List.{drop_all, drop_more, length_push}
 use Rattle.std.specs.List.{range_with_len}
 use Rattle.lane_core.specs.declared.event.Asked.TheVariants.{Asks}
 use Rattle.lane_core.specs.declared.event.Event.{Event}
 use Rattle.lane_core.specs.declared.event.Reply.{Reply}
-use Rattle.lane_core.specs.Lane.{Exchange, ask_with, standing}
-use Rattle.hl_source.specs.State.{Progress, State, asks, ends_at, goes_with, reply_words}
+use Rattle.lane_core.specs.Lane.{ask_with}
+use Rattle.hl_source.specs.State.{State, asks, ends_at, goes_with}
 use Rattle.lane_core.specs.Words.{wrapped}
 
 -- what is held between two events

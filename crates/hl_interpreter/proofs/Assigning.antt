@@ -1,5 +1,5 @@
 -- What assignments and the copies of a call meet, by what their parts give.
-use Rattle.std.proofs.Common.{◌≡◌, ◌∙◌, refl, sym, ap, ℕ, ◌+◌, ◌<◌, ◌≤◌, min, Bool, if◌then◌else◌, List, [], ◌∷◌, drop, get_or, length, length-drop, Option, Some, None, Result, Ok, Err, arith}
+use Rattle.std.proofs.Common.{◌≡◌, ◌∙◌, refl, sym, ap, ℕ, ◌+◌, ◌<◌, ◌≤◌, min, Bool, if◌then◌else◌, List, [], ◌∷◌, drop, get_or, length, length-drop, Option, Err, arith}
 use Rattle.std.proofs.lemmas.List.{get_or_default}
 use Rattle.hl_meaning.specs.declared.expression.Arg.{Arg as HeldArg}
 use Rattle.hl_meaning.specs.declared.expression.Location.{Location as HeldLocation}

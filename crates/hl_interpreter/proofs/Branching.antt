@@ -1,12 +1,10 @@
 -- What branches and turns of loops meet, by what their parts give.
-use Rattle.std.proofs.Common.{◌≡◌, ◌≢◌, ◌∙◌, refl, sym, ap, ℕ, Bool, true, false, if◌then◌else◌, Option, Some, None, Result, Ok, Err}
-use Rattle.hl_meaning.specs.declared.expression.Expr.{Expr as HeldExpr}
-use Rattle.hl_meaning.specs.declared.statement.Stmt.{Stmt as HeldStmt}
+use Rattle.std.proofs.Common.{◌≡◌, ◌≢◌, ◌∙◌, sym, ap, ℕ, Bool, true, false, if◌then◌else◌, Option, None, Result, Err}
 use Rattle.hl_meaning.specs.Trees.{Expr, MaybeStmt, Stmt, Stmts, for_stmt, if_stmt}
-use Rattle.hl_source.specs.State.{Context, Progress, State, after, goes_with}
-use Rattle.hl_source.specs.Statements.{Doing, Leaving, at_end, by_break, by_continue, choice, computes_if, condition, condition_if, does, does_all, does_if, leaves, tested_turn, testing_turn, then_next, then_turn, turns}
+use Rattle.hl_source.specs.State.{Context, State, after, goes_with}
+use Rattle.hl_source.specs.Statements.{Doing, at_end, by_break, by_continue, choice, computes_if, condition, condition_if, does, does_all, does_if, leaves, tested_turn, testing_turn, then_next, then_turn, turns}
 use Rattle.hl_interpreter.specs.declared.expressions.Leaving.{Leaving as HeldLeaving}
-use Rattle.hl_interpreter.specs.declared.expressions.Leaving.TheVariants.{AtEnd, ByBreak, ByContinue}
+use Rattle.hl_interpreter.specs.declared.expressions.Leaving.TheVariants.{AtEnd, ByContinue}
 use Rattle.hl_interpreter.specs.declared.run.Stop.{Stop}
 use Rattle.hl_interpreter.specs.Runs.{Meets, plain_leaving, tests}
 use Rattle.hl_interpreter.proofs.Doing.{no-step, not-next, not-turn}

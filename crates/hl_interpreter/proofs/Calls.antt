@@ -1,11 +1,11 @@
 -- What calls meet, by what their parts give.
-use Rattle.std.proofs.Common.{◌≡◌, ◌∙◌, refl, sym, ap, ℕ, suc, ◌+◌, List, [], ◌∷◌, ◌++◌, length, drop, map, slice_index_or, Option, Result, Ok, Err, arith}
+use Rattle.std.proofs.Common.{◌≡◌, ◌∙◌, refl, sym, ap, ℕ, List, [], ◌∷◌, ◌++◌, length, slice_index_or, Ok, Err, arith}
 use Rattle.lane_core.specs.declared.event.Reply.{Reply}
-use Rattle.hl_meaning.specs.Trees.{Arg, Args, call_form, more_args, no_args, place_arg, place_type, value_arg}
+use Rattle.hl_meaning.specs.Trees.{Arg, Args, call_form, more_args}
 use Rattle.hl_meaning.specs.Types.{Ty}
 use Rattle.hl_meaning.specs.declared.program.Parameter.{Parameter}
 use Rattle.hl_source.specs.Expressions.{acts, argument, argument_of, arguments, copies_out, no_callee, parameters_of, starts}
-use Rattle.hl_source.specs.State.{Callee, Context, Progress, State, after, goes_with, joined}
+use Rattle.hl_source.specs.State.{Callee, Context, Progress, State, after, goes_with}
 use Rattle.hl_interpreter.specs.declared.run.Stop.{Stop}
 use Rattle.hl_interpreter.specs.Operands.{interleaved}
 use Rattle.hl_interpreter.specs.declared.state.State.{State as HeldState}

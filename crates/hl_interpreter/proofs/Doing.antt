@@ -1,18 +1,16 @@
 -- What statements meet, by what their parts give.
-use Rattle.std.proofs.Common.{◌≡◌, ◌≢◌, ◌∙◌, refl, sym, ap, subst, ℕ, zero, suc, ◌+◌, ◌-◌, ◌<◌, ◌≤◌, Bool, true, false, List, [], ◌∷◌, ◌++◌, drop, Option, Some, None, Result, Ok, Err, arith}
+use Rattle.std.proofs.Common.{◌≡◌, ◌≢◌, ◌∙◌, refl, sym, ap, ℕ, suc, ◌+◌, ◌-◌, ◌<◌, ◌≤◌, List, ◌∷◌, drop, Option, None, Err, arith}
 use Rattle.lane_core.specs.declared.event.Asked.TheVariants.{Goes}
 use Rattle.lane_core.specs.Lane.{standing}
 use Rattle.hl_meaning.specs.declared.statement.Stmt.{Stmt as HeldStmt}
-use Rattle.hl_meaning.specs.Trees.{Expr, Stmt, Stmts, more_stmts, no_stmts}
 use Rattle.hl_meaning.specs.Views.{plain_stmt, plain_stmts}
 use Rattle.hl_source.specs.State.{Context, Progress, State, after, ends_at, goes_with}
-use Rattle.hl_source.specs.Statements.{Doing, Leaving, at_end, by_break, by_continue, by_return, choice, computes_if, condition, does, does_all, then_loop, then_next, then_turn, turns}
+use Rattle.hl_source.specs.Statements.{Doing, Leaving, at_end, computes_if, does, does_all, then_loop, then_next, then_turn, turns}
 use Rattle.hl_interpreter.specs.declared.expressions.Leaving.{Leaving as HeldLeaving}
 use Rattle.hl_interpreter.specs.declared.expressions.Leaving.TheVariants.{AtEnd, ByBreak, ByContinue, ByReturn}
 use Rattle.hl_interpreter.specs.declared.run.Stop.{Stop}
-use Rattle.hl_interpreter.specs.declared.run.Stop.TheVariants.{Ends, Memory}
 use Rattle.hl_interpreter.specs.Runs.{Meets, loop_left, plain_leaving}
-use Rattle.hl_interpreter.proofs.Meeting.{goes, same, stops}
+use Rattle.hl_interpreter.proofs.Meeting.{same, stops}
 
 -- ---- turns of a loop
 

@@ -1,11 +1,11 @@
 -- What each form of expression meets, by what its operands give.
-use Rattle.std.proofs.Common.{◌≡◌, ◌∙◌, refl, sym, ap, ℕ, Bool, List, [], ◌∷◌, Option, Some, None, Result, Ok, Err}
+use Rattle.std.proofs.Common.{◌≡◌, refl, sym, ap, ℕ, Bool, List, [], ◌∷◌, Option, Result, Err}
 use Rattle.lane_core.specs.declared.event.AtomicKind.{AtomicKind}
 use Rattle.hl_meaning.specs.declared.expression.Expr.{Expr as HeldExpr}
-use Rattle.hl_meaning.specs.Trees.{Args, Expr, Exprs, Form, Location, MaybeExpr, MaybeLocation, PathParts, Target, an_expr, atomic_form, binary_form, build_form, call_form, choose_form, convert_form, intrinsic_form, literal_form, method_form, no_expr, pick_form, read_form, some_expr, type_of, unary_form, write_form}
+use Rattle.hl_meaning.specs.Trees.{Expr, Form, Location, MaybeExpr, MaybeLocation, Target, an_expr, atomic_form, binary_form, choose_form, method_form, no_expr, read_form, some_expr, write_form}
 use Rattle.hl_meaning.specs.Types.{Ty}
 use Rattle.hl_meaning.specs.Views.{plain_expr}
-use Rattle.hl_source.specs.Expressions.{acts, arguments, evaluates, indexes, indexes_if, operands, parameters_of, target_indexes, value_if, values}
+use Rattle.hl_source.specs.Expressions.{acts, evaluates, indexes, indexes_if, operands, target_indexes, value_if}
 use Rattle.hl_source.specs.State.{Context, Progress, State, after, alone, first_then, goes_with}
 use Rattle.hl_interpreter.specs.declared.run.Stop.{Stop}
 use Rattle.hl_interpreter.specs.Runs.{Gives, Meets, form_value}

@@ -1,5 +1,5 @@
 -- The indexes of places and the values of expressions, one after another.
-use Rattle.std.proofs.Common.{◌≡◌, ◌∙◌, refl, sym, ap, ℕ, ◌+◌, ◌⊎◌, inl, inr, List, [], ◌∷◌, ◌++◌, drop, Result, Ok, Err}
+use Rattle.std.proofs.Common.{◌≡◌, ◌∙◌, sym, ap, ℕ, ◌+◌, ◌⊎◌, inl, inr, List, [], ◌∷◌, ◌++◌, drop, Err}
 use Rattle.hl_meaning.specs.declared.expression.Expr.{Expr}
 use Rattle.hl_meaning.specs.declared.expression.Location.{Location}
 use Rattle.hl_meaning.specs.declared.expression.PathPart.{PathPart}

@@ -1,9 +1,9 @@
 -- The run of a lane, by the run of its entry.
-use Rattle.std.proofs.Common.{◌≡◌, ◌∙◌, refl, sym, ap, ℕ, List, [], drop, length, map, slice_get, slice_index_or, unwrap_or, Some}
+use Rattle.std.proofs.Common.{◌≡◌, ◌∙◌, refl, sym, ap, List, [], drop, length, map, slice_get, slice_index_or, unwrap_or, Some}
 use Rattle.std.proofs.lemmas.Option.{unwrap_or-slice_get}
 use Rattle.lane_core.specs.declared.event.Asked.{Asked}
 use Rattle.lane_core.specs.declared.event.Event.{Event}
-use Rattle.lane_core.specs.Lane.{Exchange, first_exchange, standing}
+use Rattle.lane_core.specs.Lane.{first_exchange, standing}
 use Rattle.hl_meaning.specs.Held.{plain_program}
 use Rattle.hl_meaning.specs.Slots.{slots_of}
 use Rattle.hl_meaning.specs.Views.{plain_function, plain_resource}

@@ -1,7 +1,5 @@
 -- How a part of a run and what follows it meet what calls give.
 use Rattle.std.proofs.Common.{◌≡◌, ◌∙◌, refl, sym, ap, subst, ℕ, List, [], ◌∷◌, ◌++◌, append_assoc, append-nil, Result, Ok, Err}
-use Rattle.std.specs.List.{concat}
-use Rattle.lane_core.specs.Lane.{Run, standing}
 use Rattle.hl_source.specs.State.{Progress, State, after, alone, ends_at, first_then, goes_with, joined, no_value}
 use Rattle.hl_interpreter.specs.declared.run.Stop.{Stop}
 use Rattle.hl_interpreter.specs.declared.run.Stop.TheVariants.{Ends, Memory}

@@ -1,7 +1,5 @@
 -- How functions begin and end, and how the state changes between two parts of a run.
 use Rattle.std.proofs.Common.{◌≡◌, ◌∙◌, refl, sym, ap, ℕ, ◌-◌, ◌≤◌, min, List, [], ◌∷◌, ◌++◌, drop, length, length-drop, map, arith}
-use Rattle.std.proofs.lemmas.List.{drop_all}
-use Rattle.lane_core.specs.declared.event.Event.{Event}
 use Rattle.lane_core.specs.declared.event.Reply.{Reply}
 use Rattle.lane_core.specs.Lane.{Exchange}
 use Rattle.hl_meaning.specs.declared.expression.Arg.{Arg}

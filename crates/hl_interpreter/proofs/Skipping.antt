@@ -1,5 +1,5 @@
 -- Lists of which the first parts are passed over, and lists of zeros.
-use Rattle.std.proofs.Common.{◌≡◌, ◌∙◌, refl, sym, ap, ℕ, zero, suc, ◌-◌, ◌≤◌, min, List, [], ◌∷◌, drop, length, length-drop, map, replicate, take, arith}
+use Rattle.std.proofs.Common.{◌≡◌, ◌∙◌, refl, sym, ap, ℕ, zero, suc, ◌-◌, min, List, [], ◌∷◌, drop, length, length-drop, map, replicate, take, arith}
 use Rattle.std.proofs.lemmas.List.{drop-map, drop_all, take_all}
 
 drop-same : {A : Type 0} (xs : List A) (m p : ℕ) → m ≡ min p (length xs) → drop m xs ≡ drop p xs

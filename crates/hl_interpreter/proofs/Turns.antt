@@ -1,7 +1,7 @@
 -- Lists that are gone through from the front: what was made so far, and what the rest makes.
-use Rattle.std.proofs.Common.{◌≡◌, ◌∙◌, refl, sym, ap, subst, ℕ, zero, suc, ◌+◌, ◌<◌, ◌≤◌, List, [], ◌∷◌, ◌++◌, append_assoc, append-nil, drop, get_or, length, map, replicate, slice_get, slice_index, take, Option, Some, None, suc-add, arith}
+use Rattle.std.proofs.Common.{◌≡◌, ◌∙◌, refl, sym, ap, ℕ, zero, suc, ◌+◌, ◌<◌, ◌≤◌, List, [], ◌∷◌, ◌++◌, append_assoc, append-nil, drop, get_or, length, map, suc-add, arith}
 use Rattle.std.proofs.lemmas.List.{drop_all, drop_more}
-use Rattle.std.specs.List.{concat, range_with_len, zip}
+use Rattle.std.specs.List.{concat, range_with_len}
 use Rattle.hl_source.specs.Operations.{map_2, map_3}
 
 -- the next part of a list

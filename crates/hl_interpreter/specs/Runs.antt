@@ -1,6 +1,5 @@
 -- What is held while a lane runs, as the meaning of programs speaks of it, and what a call says of a part of a run.
 use Rattle.std.specs.Prelude.{◌≡◌, ℕ, List, [], ◌∷◌, ◌++◌, drop, length, map, if◌then◌else◌, Option, Some, None, Result, Ok, Err}
-use Rattle.lane_core.specs.declared.event.Asked.{Asked}
 use Rattle.lane_core.specs.declared.event.Reply.{Reply}
 use Rattle.lane_core.specs.Lane.{Lane, Run as LaneRunOf, standing}
 use Rattle.hl_meaning.specs.declared.program.FunctionDef.{FunctionDef}

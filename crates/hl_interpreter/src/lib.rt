@@ -21,8 +21,6 @@ mod reading;
 mod run;
 mod slots;
 mod state;
-#[cfg(test)]
-mod tests;
 mod variables;
 mod words;
 mod works;

@@ -1,6 +1,6 @@
-use Rattle.std.proofs.Common.{◌≡◌, ◌∙◌, arith, ap, sym, Ok, Err, get_or}
+use Rattle.std.proofs.Common.{◌∙◌, arith, ap, sym, get_or}
 use Rattle.std.proofs.lemmas.List.{get_or_default}
-use Rattle.hl_source.specs.Operations.{all_ok, binary_word, binary_words, map_2}
+use Rattle.hl_source.specs.Operations.{binary_word, binary_words}
 use Rattle.hl_source.specs.State.{gives}
 use Rattle.hl_interpreter.proofs.Exits.{fault-exit, memory-exit}
 use Rattle.hl_interpreter.proofs.Values.{all-done, all-fault, all-pushed, all_behind, all_behind-none}

@@ -1,7 +1,5 @@
-use Rattle.std.proofs.Common.{◌≡◌, ◌∙◌, ap, sym, [], get_or, map, slice_index}
+use Rattle.std.proofs.Common.{◌∙◌, sym, get_or, slice_index}
 use Rattle.std.proofs.lemmas.List.{get_or_default}
-use Rattle.std.proofs.lemmas.Result.{IfOk-weaker}
-use Rattle.hl_source.specs.Operations.{picked}
 use Rattle.hl_interpreter.proofs.Turns.{map-end}
 use Rattle.hl_interpreter.proofs.Values.{map-pushed, picked-some}
 use Rattle.hl_interpreter.proofs.components.picked.Goals as goal

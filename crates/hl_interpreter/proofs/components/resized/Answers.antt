@@ -1,4 +1,4 @@
-use Rattle.std.proofs.Common.{◌≡◌, ◌∙◌, ap, sym, replicate, take}
+use Rattle.std.proofs.Common.{◌∙◌, ap, sym, replicate, take}
 use Rattle.std.proofs.lemmas.Result.{IfOk-weaker}
 use Rattle.hl_interpreter.proofs.Values.{resized-other, resized-scalar}
 use Rattle.hl_interpreter.proofs.components.resized.Goals as goal

@@ -1,4 +1,4 @@
-use Rattle.std.proofs.Common.{get_or, map}
+use Rattle.std.proofs.Common.{get_or}
 use Rattle.std.proofs.lemmas.List.{get_or_default}
 use Rattle.hl_source.specs.Operations.{word_as}
 use Rattle.hl_interpreter.proofs.Turns.{map-end}

@@ -1,4 +1,4 @@
-use Rattle.std.proofs.Common.{◌≡◌, get_or, ◌∙◌, ◌+◌, ◌-◌, ◌<◌, ◌≤◌, refl, sym, ap, ℕ, Bool, true, false, List, [], ◌∷◌, ◌++◌, drop, length, map, take, slice_get, slice_index, slice_index_or, slice_set, unwrap_or, Option, Some, None, option_map, Result, Ok, Err, arith, rules}
+use Rattle.std.proofs.Common.{get_or, ◌∙◌, ◌+◌, ◌-◌, refl, sym, ap, true, false, [], ◌∷◌, ◌++◌, drop, length, map, take, slice_get, slice_index, slice_index_or, slice_set, unwrap_or, Some, None, option_map, Ok, Err, arith, rules}
 use Rattle.std.proofs.lemmas.List.{drop_all, get_or_default, length_push}
 use Rattle.std.proofs.lemmas.Result.{IfOk-weaker}
 use Rattle.std.specs.List.{concat}
@@ -12,14 +12,14 @@ use Rattle.hl_meaning.specs.declared.statement.Stmt.TheVariants as Stmt_variants
 use Rattle.hl_meaning.specs.Trees.{atomic_form, binary_form, build_form, call_form, choose_form, convert_form, do_stmt, intrinsic_form, literal_form, method_form, pick_form, read_form, type_of, unary_form, while_stmt, write_form}
 use Rattle.hl_meaning.specs.Views.{plain_arg, plain_args, plain_expr, plain_exprs, plain_function, plain_location, plain_maybe_expr, plain_maybe_location, plain_maybe_stmt, plain_part, plain_parts, plain_root, plain_stmt, plain_stmts, plain_target, plain_ty}
 use Rattle.hl_meaning.proofs.Plain.{plain_arg-Place, plain_arg-Value, plain_form-Atomic, plain_form-Binary, plain_form-Build, plain_form-Call, plain_form-Choose, plain_form-Convert, plain_form-Intrinsic, plain_form-Literal, plain_form-Method, plain_form-Pick, plain_form-Read, plain_form-Unary, plain_form-Write, plain_part-Index, plain_root-Element, plain_stmt-Block, plain_stmt-Break, plain_stmt-Continue, plain_stmt-Do, plain_stmt-For, plain_stmt-If, plain_stmt-Local, plain_stmt-Return, plain_stmt-Run, plain_stmt-While, plain_target-Bytes, plain_target-Place}
-use Rattle.hl_source.specs.Expressions.{argument, argument_of, arguments, assigns, copies_out, evaluates, indexes, indexes_if, no_callee, parameters_of, root_index, starts_with, step_index, step_indexes, target_indexes, value_if, values}
+use Rattle.hl_source.specs.Expressions.{argument, argument_of, arguments, assigns, evaluates, indexes, indexes_if, no_callee, root_index, starts_with, step_index, step_indexes, target_indexes, value_if, values}
 use Rattle.hl_source.specs.Intrinsics.{work_of, worked}
-use Rattle.hl_source.specs.Memory.{load_four, read_place, store_four}
+use Rattle.hl_source.specs.Memory.{load_four, read_place}
 use Rattle.hl_source.specs.Offsets.{picked_words, slot_of}
 use Rattle.hl_source.specs.Operations.{binary_words, chosen_word, component_kind, converted, map_3, unary_word}
 use Rattle.hl_source.specs.SourceLane.{value_of}
 use Rattle.hl_source.specs.State.{after, gives, goes_with, with_variable}
-use Rattle.hl_source.specs.Statements.{at_end, by_return, computes_if, condition, condition_if, declares, does, does_all, does_if, returns, tested_turn, testing_turn, turns}
+use Rattle.hl_source.specs.Statements.{at_end, by_return, computes_if, condition_if, declares, does, does_all, does_if, returns, tested_turn, testing_turn, turns}
 use Rattle.hl_interpreter.specs.declared.expressions.Leaving.TheVariants.{AtEnd}
 use Rattle.hl_interpreter.specs.Operands.{interleaved, operands_of, pair_of}
 use Rattle.hl_interpreter.specs.Runs.{callees_behind, context_behind, context_of, form_value, loop_left, plain_leaving, run_context, state_of}
@@ -29,7 +29,7 @@ use Rattle.hl_interpreter.proofs.Callees.{callee-at, callee-past}
 use Rattle.hl_interpreter.proofs.Calls.{argument-next, argument-stops, call-first, call-goes, call-second, call-third, copied-same, starts-of}
 use Rattle.hl_interpreter.proofs.Doing.{all-left, all-next, all-stops, turn-done, turn-stops, turns-over}
 use Rattle.hl_interpreter.proofs.Exits.{memory-exit, stop-exit}
-use Rattle.hl_interpreter.proofs.Expressing.{atomic-first, atomic-fourth, atomic-goes, atomic-second, atomic-third, binary-goes, binary-left, binary-right, choose-first, choose-goes, choose-second, choose-third, load-first, load-goes, one-value-goes, one-value-stops, read-goes, read-stops, several-goes, several-stops, store-goes, store-second, write-first, write-goes, write-second}
+use Rattle.hl_interpreter.proofs.Expressing.{atomic-first, atomic-fourth, atomic-goes, atomic-second, atomic-third, binary-goes, binary-left, binary-right, choose-first, choose-goes, choose-second, choose-third, load-first, load-goes, one-value-goes, one-value-stops, read-goes, read-stops, several-goes, several-stops, store-second, write-first, write-goes, write-second}
 use Rattle.hl_interpreter.proofs.Forms.{type-of}
 use Rattle.hl_interpreter.proofs.Indexing.{no-root_index, no-step_index, place-root, place-root-stops, steps-next, steps-stop, values-next, values-stop}
 use Rattle.hl_interpreter.proofs.Meeting.{behind, behind-end, behind-none, goes, same, stops}

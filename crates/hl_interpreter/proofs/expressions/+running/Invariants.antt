@@ -1,4 +1,4 @@
-use Rattle.std.proofs.Common.{◌≡◌, ◌+◌, ◌-◌, ◌*◌, ℕ, max, drop, length, option_map, Some, None}
+use Rattle.std.proofs.Common.{◌≡◌, ◌+◌, ◌-◌, ◌*◌, max, drop, length, option_map, Some, None}
 use Rattle.hl_meaning.specs.declared.expression.Arg.{size-Arg}
 use Rattle.hl_meaning.specs.declared.expression.Expr.{size-Expr}
 use Rattle.hl_meaning.specs.declared.expression.Location.{size-Location}

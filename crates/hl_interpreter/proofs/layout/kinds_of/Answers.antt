@@ -1,4 +1,4 @@
-use Rattle.std.proofs.Common.{◌≡◌, ◌∙◌, [], ap, sym}
+use Rattle.std.proofs.Common.{◌∙◌, [], ap}
 use Rattle.std.proofs.lemmas.Result.{IfOk-weaker}
 use Rattle.hl_meaning.specs.Layout.{kinds_in, kinds_of, struct_kinds_after}
 use Rattle.hl_meaning.specs.Views.{plain_structs, plain_ty}

@@ -1,5 +1,4 @@
-use Rattle.std.proofs.Common.{◌∙◌, ap, sym}
-use Rattle.hl_meaning.specs.Views.{plain_location}
+use Rattle.std.proofs.Common.{ap}
 use Rattle.hl_source.specs.Memory.{read_reached}
 use Rattle.hl_source.specs.Offsets.{Place}
 use Rattle.hl_interpreter.specs.Runs.{context_of, state_of}

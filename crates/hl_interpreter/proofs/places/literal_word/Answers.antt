@@ -1,5 +1,4 @@
-use Rattle.std.proofs.Common.{◌∙◌, ap, sym}
-use Rattle.hl_meaning.specs.Views.{plain_form}
+use Rattle.std.proofs.Common.{ap, sym}
 use Rattle.hl_meaning.proofs.Plain.{plain_form-Literal}
 use Rattle.hl_source.specs.Offsets.{literal_word}
 use Rattle.hl_interpreter.proofs.Forms.{expr-of}

@@ -1,4 +1,4 @@
-use Rattle.std.proofs.Common.{◌≡◌, ◌∙◌, ap, drop, take}
+use Rattle.std.proofs.Common.{◌∙◌, ap, drop, take}
 use Rattle.std.proofs.lemmas.Result.{IfOk-weaker}
 use Rattle.hl_meaning.specs.Views.{plain_parts, plain_structs, plain_ty}
 use Rattle.hl_source.specs.Offsets.{picked_at, reached, start_of}

@@ -1,4 +1,4 @@
-use Rattle.std.proofs.Common.{◌≡◌, ◌∙◌, ◌+◌, ℕ, Err, ap, arith, drop, sym}
+use Rattle.std.proofs.Common.{◌∙◌, ◌+◌, ℕ, Err, ap, arith, drop, sym}
 use Rattle.lane_core.specs.declared.event.Event.TheVariants.{SharedLoad}
 use Rattle.lane_core.specs.Words.{wrapping_add}
 use Rattle.hl_source.specs.Memory.{cell, shared_size, within, word_offsets}

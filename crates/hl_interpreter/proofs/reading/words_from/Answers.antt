@@ -1,4 +1,4 @@
-use Rattle.std.proofs.Common.{◌≡◌, ◌∙◌, ◌+◌, ap, arith, drop, sym}
+use Rattle.std.proofs.Common.{◌∙◌, ◌+◌, ap, arith, drop, sym}
 use Rattle.lane_core.specs.Words.{wrapping_add}
 use Rattle.hl_source.specs.Memory.{word_of, word_offsets}
 use Rattle.hl_source.specs.State.{each}

@@ -1,0 +1,114 @@
+//! Whether calls stand in expressions.
+
+use hl_meaning::{Expr, Form, Location, PathPart, Root, Target};
+use sqlite_items::Boxed;
+
+/// Whether a call stands in an expression, among what it evaluates.
+#[cycle(holding)]
+pub(crate) fn holds_call(expr: &Expr) -> bool {
+    match &expr.form {
+        Form::Literal(_) => false,
+        Form::Read(place) => place_holds_call(place),
+        Form::Write { to, value, .. } => place_holds_call(to) || holds_call(value.get()),
+        Form::Convert(value) => holds_call(value.get()),
+        Form::Unary { value, .. } => holds_call(value.get()),
+        Form::Binary { left, right, .. } => holds_call(left.get()) || holds_call(right.get()),
+        Form::Choose { cond, yes, no } => {
+            holds_call(cond.get()) || holds_call(yes.get()) || holds_call(no.get())
+        }
+        Form::Build(parts) => last_call(parts.as_slice()) > 0,
+        Form::Pick { value, .. } => holds_call(value.get()),
+        Form::Call { .. } => true,
+        Form::Intrinsic { args, .. } => last_call(args.as_slice()) > 0,
+        Form::Method { address, value, .. } => {
+            holds_call(address.get()) || expr_if_holds_call(value)
+        }
+        Form::Atomic {
+            target,
+            compare,
+            value,
+            original,
+            ..
+        } => {
+            target_holds_call(target)
+                || expr_if_holds_call(compare)
+                || holds_call(value.get())
+                || place_if_holds_call(original)
+        }
+    }
+}
+
+/// How many of some expressions there are up to the last one that holds a call, and 0 where none does.
+#[cycle(holding)]
+pub(crate) fn last_call(exprs: &[Expr]) -> usize {
+    let mut last = 0;
+    for (index, expr) in exprs.iter().enumerate() {
+        if holds_call(expr) {
+            last = index + 1;
+        }
+    }
+    last
+}
+
+/// The same of the steps of a place.
+#[cycle(holding)]
+pub(crate) fn last_call_in_parts(parts: &[PathPart]) -> usize {
+    let mut last = 0;
+    for (index, part) in parts.iter().enumerate() {
+        if part_holds_call(part) {
+            last = index + 1;
+        }
+    }
+    last
+}
+
+/// Whether a call stands in a step.
+#[cycle(holding)]
+fn part_holds_call(part: &PathPart) -> bool {
+    match part {
+        PathPart::Index(index) => holds_call(index.get()),
+        PathPart::Member(_) | PathPart::Swizzle(_) => false,
+    }
+}
+
+/// Whether a call stands in a place.
+#[cycle(holding)]
+fn place_holds_call(place: &Location) -> bool {
+    root_holds_call(&place.root) || last_call_in_parts(place.parts.as_slice()) > 0
+}
+
+/// Whether a call stands in the root of a place.
+#[cycle(holding)]
+fn root_holds_call(root: &Root) -> bool {
+    match root {
+        Root::Element { index, .. } => holds_call(index.get()),
+        Root::Variable(_) | Root::Constant(_) | Root::Shared(_) => false,
+    }
+}
+
+/// Whether a call stands in a place that may be there.
+#[cycle(holding)]
+pub(crate) fn place_if_holds_call(place: &Option<Location>) -> bool {
+    match place {
+        Some(place) => place_holds_call(place),
+        None => false,
+    }
+}
+
+/// Whether a call stands in an expression that may be there.
+#[cycle(holding)]
+pub(crate) fn expr_if_holds_call(value: &Option<Boxed<Expr>>) -> bool {
+    match value {
+        Some(value) => holds_call(value.get()),
+        None => false,
+    }
+}
+
+/// Whether a call stands in the target of an atomic operation.
+#[cycle(holding)]
+fn target_holds_call(target: &Target) -> bool {
+    match target {
+        Target::Place(place) => place_holds_call(place),
+        Target::Bytes { address, .. } => holds_call(address.get()),
+    }
+}

@@ -1,0 +1,135 @@
+//! What becomes of places. Their indexes are operands.
+
+use crate::context::{Context, shifted};
+use crate::expressions::emit_boxed;
+use crate::flat::FlatStmts;
+use crate::fresh::Fresh;
+use crate::holding::last_call_in_parts;
+use base_core::{Bytes, NoMemory};
+use hl_meaning::{Location, PathPart, PathParts, Root, Target};
+
+/// A place. Its indexes are saved where statements come behind it that may change their values.
+///
+/// # Errors
+/// `NoMemory` where memory is refused, as in each call below.
+#[cycle(inlining)]
+pub(crate) fn emit_place(
+    context: &Context,
+    further: bool,
+    place: &Location,
+    fresh: &mut Fresh,
+    code: &mut FlatStmts,
+) -> Result<Location, NoMemory> {
+    let last = last_call_in_parts(place.parts.as_slice());
+    let root = emit_root(context, further || last > 0, &place.root, fresh, code)?;
+    let parts = emit_parts(context, further, last, &place.parts, fresh, code)?;
+    let ty = place.ty.copied(context.alloc)?;
+    Ok(Location { ty, root, parts })
+}
+
+/// The root of a place.
+#[cycle(inlining)]
+fn emit_root(
+    context: &Context,
+    further: bool,
+    root: &Root,
+    fresh: &mut Fresh,
+    code: &mut FlatStmts,
+) -> Result<Root, NoMemory> {
+    match root {
+        Root::Variable(number) => {
+            let number = shifted(context.first, *number)?;
+            Ok(Root::Variable(number))
+        }
+        Root::Constant(number) => Ok(Root::Variable(*number)),
+        Root::Shared(number) => Ok(Root::Shared(*number)),
+        Root::Element { resource, index } => {
+            let index = emit_boxed(context, further, index.get(), fresh, code)?;
+            Ok(Root::Element {
+                resource: *resource,
+                index,
+            })
+        }
+    }
+}
+
+/// The steps of a place, of which so many stand up to the last one that holds a call.
+#[cycle(inlining)]
+fn emit_parts(
+    context: &Context,
+    further: bool,
+    last: usize,
+    parts: &PathParts,
+    fresh: &mut Fresh,
+    code: &mut FlatStmts,
+) -> Result<PathParts, NoMemory> {
+    let mut made = PathParts::new(context.alloc);
+    for (index, part) in parts.as_slice().iter().enumerate() {
+        let part = emit_part(context, further || index + 1 < last, part, fresh, code)?;
+        made.push(part)?;
+    }
+    Ok(made)
+}
+
+/// A step.
+#[cycle(inlining)]
+fn emit_part(
+    context: &Context,
+    further: bool,
+    part: &PathPart,
+    fresh: &mut Fresh,
+    code: &mut FlatStmts,
+) -> Result<PathPart, NoMemory> {
+    match part {
+        PathPart::Member(number) => Ok(PathPart::Member(*number)),
+        PathPart::Index(index) => {
+            let index = emit_boxed(context, further, index.get(), fresh, code)?;
+            Ok(PathPart::Index(index))
+        }
+        PathPart::Swizzle(letters) => {
+            let letters = Bytes::from_slice(context.alloc, letters.as_slice())?;
+            Ok(PathPart::Swizzle(letters))
+        }
+    }
+}
+
+/// A place that may be there, behind which no operand comes.
+#[cycle(inlining)]
+pub(crate) fn emit_place_if(
+    context: &Context,
+    place: &Option<Location>,
+    fresh: &mut Fresh,
+    code: &mut FlatStmts,
+) -> Result<Option<Location>, NoMemory> {
+    match place {
+        Some(place) => {
+            let place = emit_place(context, false, place, fresh, code)?;
+            Ok(Some(place))
+        }
+        None => Ok(None),
+    }
+}
+
+/// The target of an atomic operation.
+#[cycle(inlining)]
+pub(crate) fn emit_target(
+    context: &Context,
+    further: bool,
+    target: &Target,
+    fresh: &mut Fresh,
+    code: &mut FlatStmts,
+) -> Result<Target, NoMemory> {
+    match target {
+        Target::Place(place) => {
+            let place = emit_place(context, further, place, fresh, code)?;
+            Ok(Target::Place(place))
+        }
+        Target::Bytes { resource, address } => {
+            let address = emit_boxed(context, further, address.get(), fresh, code)?;
+            Ok(Target::Bytes {
+                resource: *resource,
+                address,
+            })
+        }
+    }
+}

@@ -6,3 +6,4 @@ pub mod IndexedVariables
 pub mod Operands
 pub mod Early
 pub mod Flattening
+pub mod Building

@@ -1,5 +1,7 @@
 //! Where a function stands in a program without calls.
 
+ghost use Rattle.std.specs.Prelude.{◌≡◌, ◌+◌, IfOk};
+
 use base_core::NoMemory;
 use hl_meaning::FunctionDef;
 use std::alloc::Global;
@@ -26,7 +28,9 @@ pub(crate) struct Jumps {
 ///
 /// # Errors
 /// `NoMemory` where there are more variables than numbers.
-pub(crate) fn shifted(first: u32, number: u32) -> Result<u32, NoMemory> {
+pub(crate) fn shifted(first: u32, number: u32) -> Result<u32, NoMemory>
+    ensures { IfOk result (λ sum. sum ≡ first + number) }
+{
     match first.checked_add(number) {
         Some(sum) => Ok(sum),
         None => Err(NoMemory),

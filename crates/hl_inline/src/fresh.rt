@@ -1,5 +1,10 @@
 //! The variables and the names of a program without calls, as far as they are used.
 
+ghost use Rattle.std.specs.Prelude.{◌≡◌, suc, ◌∷◌, [], IfOk, OnOk, map};
+ghost use Rattle.hl_meaning.specs.Views.{plain_ty, plain_variable};
+ghost use Rattle.hl_inline.specs.Building.{plain_fresh};
+ghost use Rattle.hl_inline.specs.Flattening.{next_of, unnamed, with_variables};
+
 use base_core::{NoMemory, Text};
 use hl_meaning::{HlType, Variable, Variables};
 use std::alloc::Global;
@@ -13,7 +18,9 @@ pub(crate) struct Fresh {
 
 impl Fresh {
     /// The number of the next variable.
-    pub fn next(&self) -> u32 {
+    pub fn next(&self) -> u32
+        ensures { result ≡ next_of (plain_fresh self.now) }
+    {
         self.variables.len() as u32
     }
 
@@ -21,7 +28,10 @@ impl Fresh {
     ///
     /// # Errors
     /// `NoMemory` where no name is left.
-    pub fn take_name(&mut self) -> Result<u32, NoMemory> {
+    pub fn take_name(&mut self) -> Result<u32, NoMemory>
+        ensures name { IfOk result (λ name. name ≡ self.old.names) }
+        ensures fresh { OnOk result (plain_fresh self.new ≡ record (plain_fresh self.old) { names = suc self.old.names }) }
+    {
         let name = self.names;
         if name == u32::MAX {
             return Err(NoMemory);
@@ -34,7 +44,9 @@ impl Fresh {
     ///
     /// # Errors
     /// `NoMemory` where memory is refused.
-    pub fn add_unnamed(&mut self, alloc: Global, ty: &HlType, at: usize) -> Result<(), NoMemory> {
+    pub fn add_unnamed(&mut self, alloc: Global, ty: &HlType, at: usize) -> Result<(), NoMemory>
+        ensures { OnOk result (plain_fresh self.new ≡ with_variables (unnamed (plain_ty ty.now) at ∷ []) (plain_fresh self.old)) }
+    {
         let ty = ty.copied(alloc)?;
         self.variables.push(Variable {
             name: Text::new(alloc),
@@ -47,7 +59,9 @@ impl Fresh {
     ///
     /// # Errors
     /// `NoMemory` where memory is refused.
-    pub fn add_copies(&mut self, alloc: Global, variables: &[Variable]) -> Result<(), NoMemory> {
+    pub fn add_copies(&mut self, alloc: Global, variables: &[Variable]) -> Result<(), NoMemory>
+        ensures { OnOk result (plain_fresh self.new ≡ with_variables (map plain_variable variables.now) (plain_fresh self.old)) }
+    {
         for variable in variables {
             let copy = copied_variable(alloc, variable)?;
             self.variables.push(copy)?;
@@ -57,7 +71,9 @@ impl Fresh {
 }
 
 /// A copy of a variable.
-pub(crate) fn copied_variable(alloc: Global, variable: &Variable) -> Result<Variable, NoMemory> {
+pub(crate) fn copied_variable(alloc: Global, variable: &Variable) -> Result<Variable, NoMemory>
+    ensures { IfOk result (λ copy. plain_variable copy ≡ plain_variable variable.now) }
+{
     let name = Text::from_slice(alloc, variable.name.as_slice())?;
     let ty = variable.ty.copied(alloc)?;
     Ok(Variable {

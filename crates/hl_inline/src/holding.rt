@@ -1,11 +1,18 @@
 //! Whether calls stand in expressions.
 
+ghost use Rattle.std.specs.Prelude.{◌≡◌, List};
+ghost use Rattle.hl_meaning.specs.Views.{plain_expr, plain_exprs, plain_location, plain_maybe_expr, plain_maybe_location, plain_part, plain_parts, plain_root, plain_target};
+ghost use Rattle.hl_inline.specs.Building.{last_calling, last_part_calling};
+ghost use Rattle.hl_inline.specs.Flattening.{Inlined, Instance, any_calls, emitter, expr_if_emitters, exprs_emitters, part_emitters, place_emitters, place_if_emitters, root_emitters, target_emitters};
+
 use hl_meaning::{Expr, Form, Location, PathPart, Root, Target};
 use sqlite_items::Boxed;
 
 /// Whether a call stands in an expression, among what it evaluates.
 #[cycle(holding)]
-pub(crate) fn holds_call(expr: &Expr) -> bool {
+pub(crate) fn holds_call(expr: &Expr) -> bool
+    ensures { (k : List Inlined) → (i : Instance) → result ≡ (emitter k i (plain_expr expr.now)).calls }
+{
     match &expr.form {
         Form::Literal(_) => false,
         Form::Read(place) => place_holds_call(place),
@@ -40,7 +47,9 @@ pub(crate) fn holds_call(expr: &Expr) -> bool {
 
 /// How many of some expressions there are up to the last one that holds a call, and 0 where none does.
 #[cycle(holding)]
-pub(crate) fn last_call(exprs: &[Expr]) -> usize {
+pub(crate) fn last_call(exprs: &[Expr]) -> usize
+    ensures { (k : List Inlined) → (i : Instance) → result ≡ last_calling (exprs_emitters k i (plain_exprs exprs.now)) }
+{
     let mut last = 0;
     for (index, expr) in exprs.iter().enumerate() {
         if holds_call(expr) {
@@ -52,7 +61,9 @@ pub(crate) fn last_call(exprs: &[Expr]) -> usize {
 
 /// The same of the steps of a place.
 #[cycle(holding)]
-pub(crate) fn last_call_in_parts(parts: &[PathPart]) -> usize {
+pub(crate) fn last_call_in_parts(parts: &[PathPart]) -> usize
+    ensures { (k : List Inlined) → (i : Instance) → result ≡ last_part_calling k i (plain_parts parts.now) }
+{
     let mut last = 0;
     for (index, part) in parts.iter().enumerate() {
         if part_holds_call(part) {
@@ -64,7 +75,9 @@ pub(crate) fn last_call_in_parts(parts: &[PathPart]) -> usize {
 
 /// Whether a call stands in a step.
 #[cycle(holding)]
-fn part_holds_call(part: &PathPart) -> bool {
+fn part_holds_call(part: &PathPart) -> bool
+    ensures { (k : List Inlined) → (i : Instance) → result ≡ any_calls (part_emitters k i (plain_part part.now)) }
+{
     match part {
         PathPart::Index(index) => holds_call(index.get()),
         PathPart::Member(_) | PathPart::Swizzle(_) => false,
@@ -73,13 +86,17 @@ fn part_holds_call(part: &PathPart) -> bool {
 
 /// Whether a call stands in a place.
 #[cycle(holding)]
-fn place_holds_call(place: &Location) -> bool {
+fn place_holds_call(place: &Location) -> bool
+    ensures { (k : List Inlined) → (i : Instance) → result ≡ any_calls (place_emitters k i (plain_location place.now)) }
+{
     root_holds_call(&place.root) || last_call_in_parts(place.parts.as_slice()) > 0
 }
 
 /// Whether a call stands in the root of a place.
 #[cycle(holding)]
-fn root_holds_call(root: &Root) -> bool {
+fn root_holds_call(root: &Root) -> bool
+    ensures { (k : List Inlined) → (i : Instance) → result ≡ any_calls (root_emitters k i (plain_root root.now)) }
+{
     match root {
         Root::Element { index, .. } => holds_call(index.get()),
         Root::Variable(_) | Root::Constant(_) | Root::Shared(_) => false,
@@ -88,7 +105,9 @@ fn root_holds_call(root: &Root) -> bool {
 
 /// Whether a call stands in a place that may be there.
 #[cycle(holding)]
-pub(crate) fn place_if_holds_call(place: &Option<Location>) -> bool {
+pub(crate) fn place_if_holds_call(place: &Option<Location>) -> bool
+    ensures { (k : List Inlined) → (i : Instance) → result ≡ any_calls (place_if_emitters k i (plain_maybe_location place.now)) }
+{
     match place {
         Some(place) => place_holds_call(place),
         None => false,
@@ -97,7 +116,9 @@ pub(crate) fn place_if_holds_call(place: &Option<Location>) -> bool {
 
 /// Whether a call stands in an expression that may be there.
 #[cycle(holding)]
-pub(crate) fn expr_if_holds_call(value: &Option<Boxed<Expr>>) -> bool {
+pub(crate) fn expr_if_holds_call(value: &Option<Boxed<Expr>>) -> bool
+    ensures { (k : List Inlined) → (i : Instance) → result ≡ any_calls (expr_if_emitters k i (plain_maybe_expr value.now)) }
+{
     match value {
         Some(value) => holds_call(value.get()),
         None => false,
@@ -106,7 +127,9 @@ pub(crate) fn expr_if_holds_call(value: &Option<Boxed<Expr>>) -> bool {
 
 /// Whether a call stands in the target of an atomic operation.
 #[cycle(holding)]
-fn target_holds_call(target: &Target) -> bool {
+fn target_holds_call(target: &Target) -> bool
+    ensures { (k : List Inlined) → (i : Instance) → result ≡ any_calls (target_emitters k i (plain_target target.now)) }
+{
     match target {
         Target::Place(place) => place_holds_call(place),
         Target::Bytes { address, .. } => holds_call(address.get()),

@@ -1,6 +1,6 @@
 //! Programs become programs without calls.
 
-use crate::calls::lay_named;
+use crate::calling::lay_named;
 use crate::constants::set_constants;
 use crate::context::{Context, shifted};
 use crate::flat::{Flat, FlatStmt, FlatStmts};

@@ -1,12 +1,13 @@
 //! Programs without calls, and how a program becomes one.
 #![tactic(auto)]
 
-mod calls;
+mod bodies;
+mod calling;
 mod constants;
 mod context;
 mod copies;
 mod early;
-mod expressions;
+mod emitting;
 mod flat;
 mod fresh;
 mod holding;
@@ -15,7 +16,6 @@ mod made;
 mod mentions;
 mod parts;
 mod places;
-mod statements;
 #[cfg(test)]
 mod tests;
 

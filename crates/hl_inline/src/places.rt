@@ -1,7 +1,13 @@
 //! What becomes of places. Their indexes are operands.
 
+ghost use Rattle.std.specs.Prelude.{◌≡◌, false, IfOk};
+ghost use Rattle.hl_meaning.specs.Views.{plain_location, plain_maybe_location, plain_part, plain_parts, plain_root, plain_target};
+ghost use Rattle.hl_inline.specs.Building.{callees_in, filled_part, instance_in, last_part_calling, made, made_behind, plain_code, plain_fresh};
+ghost use Rattle.hl_inline.specs.Flattening.{emit_all, part_emitters, parts_emitters, place_emitters, place_if_emitters, root_emitters, target_emitters};
+ghost use Rattle.hl_inline.specs.Operands.{filled_parts, filled_place, filled_place_if, filled_root, filled_target};
+
 use crate::context::{Context, shifted};
-use crate::expressions::emit_boxed;
+use crate::emitting::emit_boxed;
 use crate::flat::FlatStmts;
 use crate::fresh::Fresh;
 use crate::holding::last_call_in_parts;
@@ -19,7 +25,9 @@ pub(crate) fn emit_place(
     place: &Location,
     fresh: &mut Fresh,
     code: &mut FlatStmts,
-) -> Result<Location, NoMemory> {
+) -> Result<Location, NoMemory>
+    ensures { IfOk result (λ value. made_behind (plain_code code.old) (filled_place (instance_in context.now).first (plain_location place.now)) (emit_all further (place_emitters (callees_in context.now) (instance_in context.now) (plain_location place.now)) (plain_fresh fresh.old)) ≡ made (plain_code code.new) (plain_location value) (plain_fresh fresh.new)) }
+{
     let last = last_call_in_parts(place.parts.as_slice());
     let root = emit_root(context, further || last > 0, &place.root, fresh, code)?;
     let parts = emit_parts(context, further, last, &place.parts, fresh, code)?;
@@ -35,7 +43,9 @@ fn emit_root(
     root: &Root,
     fresh: &mut Fresh,
     code: &mut FlatStmts,
-) -> Result<Root, NoMemory> {
+) -> Result<Root, NoMemory>
+    ensures { IfOk result (λ value. made_behind (plain_code code.old) (filled_root (instance_in context.now).first (plain_root root.now)) (emit_all further (root_emitters (callees_in context.now) (instance_in context.now) (plain_root root.now)) (plain_fresh fresh.old)) ≡ made (plain_code code.new) (plain_root value) (plain_fresh fresh.new)) }
+{
     match root {
         Root::Variable(number) => {
             let number = shifted(context.first, *number)?;
@@ -62,7 +72,10 @@ fn emit_parts(
     parts: &PathParts,
     fresh: &mut Fresh,
     code: &mut FlatStmts,
-) -> Result<PathParts, NoMemory> {
+) -> Result<PathParts, NoMemory>
+    requires { last ≡ last_part_calling (callees_in context.now) (instance_in context.now) (plain_parts parts.now) }
+    ensures { IfOk result (λ value. made_behind (plain_code code.old) (filled_parts (plain_parts parts.now)) (emit_all further (parts_emitters (callees_in context.now) (instance_in context.now) (plain_parts parts.now)) (plain_fresh fresh.old)) ≡ made (plain_code code.new) (plain_parts value) (plain_fresh fresh.new)) }
+{
     let mut made = PathParts::new(context.alloc);
     for (index, part) in parts.as_slice().iter().enumerate() {
         let part = emit_part(context, further || index + 1 < last, part, fresh, code)?;
@@ -79,7 +92,9 @@ fn emit_part(
     part: &PathPart,
     fresh: &mut Fresh,
     code: &mut FlatStmts,
-) -> Result<PathPart, NoMemory> {
+) -> Result<PathPart, NoMemory>
+    ensures { IfOk result (λ value. made_behind (plain_code code.old) (filled_part (plain_part part.now)) (emit_all further (part_emitters (callees_in context.now) (instance_in context.now) (plain_part part.now)) (plain_fresh fresh.old)) ≡ made (plain_code code.new) (plain_part value) (plain_fresh fresh.new)) }
+{
     match part {
         PathPart::Member(number) => Ok(PathPart::Member(*number)),
         PathPart::Index(index) => {
@@ -100,7 +115,9 @@ pub(crate) fn emit_place_if(
     place: &Option<Location>,
     fresh: &mut Fresh,
     code: &mut FlatStmts,
-) -> Result<Option<Location>, NoMemory> {
+) -> Result<Option<Location>, NoMemory>
+    ensures { IfOk result (λ value. made_behind (plain_code code.old) (filled_place_if (instance_in context.now).first (plain_maybe_location place.now)) (emit_all false (place_if_emitters (callees_in context.now) (instance_in context.now) (plain_maybe_location place.now)) (plain_fresh fresh.old)) ≡ made (plain_code code.new) (plain_maybe_location value) (plain_fresh fresh.new)) }
+{
     match place {
         Some(place) => {
             let place = emit_place(context, false, place, fresh, code)?;
@@ -118,7 +135,9 @@ pub(crate) fn emit_target(
     target: &Target,
     fresh: &mut Fresh,
     code: &mut FlatStmts,
-) -> Result<Target, NoMemory> {
+) -> Result<Target, NoMemory>
+    ensures { IfOk result (λ value. made_behind (plain_code code.old) (filled_target (instance_in context.now).first (plain_target target.now)) (emit_all further (target_emitters (callees_in context.now) (instance_in context.now) (plain_target target.now)) (plain_fresh fresh.old)) ≡ made (plain_code code.new) (plain_target value) (plain_fresh fresh.new)) }
+{
     match target {
         Target::Place(place) => {
             let place = emit_place(context, further, place, fresh, code)?;

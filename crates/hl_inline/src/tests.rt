@@ -148,7 +148,15 @@ fn a_call_in_a_condition_stands_in_the_loop(rt: HostRuntime) -> Result<(), Fail>
     let flat = inline(alloc, &program)?;
     assert_eq!(rt; flat.variables.len(), 3);
     let turn = match body_of(&flat) {
-        Some([FlatStmt::Local { variable: 0, init: None }, FlatStmt::Named { name: 1, body }]) => match body.get() {
+        Some(
+            [
+                FlatStmt::Local {
+                    variable: 0,
+                    init: None,
+                },
+                FlatStmt::Named { name: 1, body },
+            ],
+        ) => match body.get() {
             FlatStmt::Loop(turn) => match turn.get() {
                 FlatStmt::Block(stmts) => Some(stmts.as_slice()),
                 _ => None,

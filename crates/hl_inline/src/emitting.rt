@@ -3,7 +3,15 @@
 //! The operands of an expression are emitted in order. What the calls in them become are statements, which go before the
 //! statement that the expression stands in. So the value of an operand is saved where a call stands in a later one.
 
-use crate::calls::emit_call;
+ghost use Rattle.std.specs.Prelude.{◌≡◌, ℕ, [], Bool, false, IfOk};
+ghost use Rattle.hl_meaning.specs.Trees.{an_expr, atomic_form, binary_form, choose_form, method_form, write_form};
+ghost use Rattle.hl_meaning.specs.Types.{Ty};
+ghost use Rattle.hl_meaning.specs.Views.{exprs_of, plain_expr, plain_exprs, plain_form, plain_location, plain_maybe_expr, plain_maybe_location, plain_target, plain_ty};
+ghost use Rattle.hl_inline.specs.Building.{behind, callees_in, instance_in, made, made_behind, operand_behind, plain_code, plain_fresh, valued};
+ghost use Rattle.hl_inline.specs.Flattening.{emit_all, emitted, expr_if_emitters, exprs_emitters, form_emitter, saved, settled};
+ghost use Rattle.hl_inline.specs.Operands.{filled_expr_if};
+
+use crate::calling::emit_call;
 use crate::context::Context;
 use crate::copies::{copied_parts, reading};
 use crate::flat::{FlatStmt, FlatStmts};
@@ -40,7 +48,9 @@ pub(crate) fn emit(
     expr: &Expr,
     fresh: &mut Fresh,
     code: &mut FlatStmts,
-) -> Result<Emitted, NoMemory> {
+) -> Result<Emitted, NoMemory>
+    ensures { IfOk result (λ e. behind (plain_code code.old) (emitted (callees_in context.now) (instance_in context.now) (plain_expr expr.now) (plain_fresh fresh.old)) ≡ valued (plain_code code.new) (plain_expr e.value) e.fixed (plain_fresh fresh.new)) }
+{
     let formed = emit_form(context, &expr.ty, expr.at, &expr.form, fresh, code)?;
     let ty = expr.ty.copied(context.alloc)?;
     Ok(Emitted {
@@ -62,7 +72,9 @@ fn emit_form(
     form: &Form,
     fresh: &mut Fresh,
     code: &mut FlatStmts,
-) -> Result<Formed, NoMemory> {
+) -> Result<Formed, NoMemory>
+    ensures { IfOk result (λ made. behind (plain_code code.old) ((form_emitter (callees_in context.now) (instance_in context.now) (plain_ty ty.now) at (plain_form form.now)).emit (plain_fresh fresh.old)) ≡ valued (plain_code code.new) (an_expr (plain_ty ty.now) at (plain_form made.form)) made.fixed (plain_fresh fresh.new)) }
+{
     match form {
         Form::Literal(word) => Ok(Formed {
             form: Form::Literal(*word),
@@ -146,7 +158,10 @@ fn emit_form(
 }
 
 /// A form whose value statements behind it may change.
-fn open(form: Form) -> Formed {
+fn open(form: Form) -> Formed
+    ensures form { result.form ≡ form }
+    ensures fixed { result.fixed ≡ false }
+{
     Formed { form, fixed: false }
 }
 
@@ -158,7 +173,9 @@ pub(crate) fn emit_operand(
     expr: &Expr,
     fresh: &mut Fresh,
     code: &mut FlatStmts,
-) -> Result<Expr, NoMemory> {
+) -> Result<Expr, NoMemory>
+    ensures { IfOk result (λ value. operand_behind (plain_code code.old) (settled further (emitted (callees_in context.now) (instance_in context.now) (plain_expr expr.now) (plain_fresh fresh.old))) ≡ made (plain_code code.new) (plain_expr value) (plain_fresh fresh.new)) }
+{
     let emitted = emit(context, expr, fresh, code)?;
     settle(context.alloc, further, emitted, fresh, code)
 }
@@ -171,7 +188,9 @@ pub(crate) fn emit_boxed(
     expr: &Expr,
     fresh: &mut Fresh,
     code: &mut FlatStmts,
-) -> Result<Boxed<Expr>, NoMemory> {
+) -> Result<Boxed<Expr>, NoMemory>
+    ensures { IfOk result (λ value. operand_behind (plain_code code.old) (settled further (emitted (callees_in context.now) (instance_in context.now) (plain_expr expr.now) (plain_fresh fresh.old))) ≡ made (plain_code code.new) (plain_expr value) (plain_fresh fresh.new)) }
+{
     let value = emit_operand(context, further, expr, fresh, code)?;
     let value = Boxed::new(context.alloc, value)?;
     Ok(value)
@@ -184,7 +203,9 @@ fn settle(
     emitted: Emitted,
     fresh: &mut Fresh,
     code: &mut FlatStmts,
-) -> Result<Expr, NoMemory> {
+) -> Result<Expr, NoMemory>
+    ensures { IfOk result (λ value. operand_behind [] (settled further (valued (plain_code code.old) (plain_expr emitted.value) emitted.fixed (plain_fresh fresh.old))) ≡ made (plain_code code.new) (plain_expr value) (plain_fresh fresh.new)) }
+{
     if further && !emitted.fixed {
         return save(alloc, emitted.value, fresh, code);
     }
@@ -197,7 +218,9 @@ fn save(
     value: Expr,
     fresh: &mut Fresh,
     code: &mut FlatStmts,
-) -> Result<Expr, NoMemory> {
+) -> Result<Expr, NoMemory>
+    ensures { IfOk result (λ read. operand_behind [] (saved (valued (plain_code code.old) (plain_expr value) false (plain_fresh fresh.old))) ≡ made (plain_code code.new) (plain_expr read) (plain_fresh fresh.new)) }
+{
     let number = fresh.next();
     let at = value.at;
     let read = reading(alloc, &value.ty, at, number)?;
@@ -216,7 +239,9 @@ fn emit_exprs(
     exprs: &Exprs,
     fresh: &mut Fresh,
     code: &mut FlatStmts,
-) -> Result<Exprs, NoMemory> {
+) -> Result<Exprs, NoMemory>
+    ensures { IfOk result (λ values. made_behind (plain_code code.old) exprs_of (emit_all false (exprs_emitters (callees_in context.now) (instance_in context.now) (plain_exprs exprs.now)) (plain_fresh fresh.old)) ≡ made (plain_code code.new) (plain_exprs values) (plain_fresh fresh.new)) }
+{
     let last = last_call(exprs.as_slice());
     let mut values = Exprs::new(context.alloc);
     for (index, expr) in exprs.as_slice().iter().enumerate() {
@@ -234,7 +259,9 @@ fn emit_expr_if(
     value: &Option<Boxed<Expr>>,
     fresh: &mut Fresh,
     code: &mut FlatStmts,
-) -> Result<Option<Boxed<Expr>>, NoMemory> {
+) -> Result<Option<Boxed<Expr>>, NoMemory>
+    ensures { IfOk result (λ made_value. made_behind (plain_code code.old) (filled_expr_if (plain_maybe_expr value.now)) (emit_all further (expr_if_emitters (callees_in context.now) (instance_in context.now) (plain_maybe_expr value.now)) (plain_fresh fresh.old)) ≡ made (plain_code code.new) (plain_maybe_expr made_value) (plain_fresh fresh.new)) }
+{
     match value {
         Some(value) => {
             let value = emit_boxed(context, further, value.get(), fresh, code)?;
@@ -255,7 +282,9 @@ fn emit_write(
     old: bool,
     fresh: &mut Fresh,
     code: &mut FlatStmts,
-) -> Result<Formed, NoMemory> {
+) -> Result<Formed, NoMemory>
+    ensures { IfOk result (λ made. (ty : Ty) → (at : ℕ) → behind (plain_code code.old) ((form_emitter (callees_in context.now) (instance_in context.now) ty at (write_form (plain_location to.now) op (plain_ty common.now) (plain_expr value.now) old)).emit (plain_fresh fresh.old)) ≡ valued (plain_code code.new) (an_expr ty at (plain_form made.form)) made.fixed (plain_fresh fresh.new)) }
+{
     let to = emit_place(context, holds_call(value), to, fresh, code)?;
     let value = emit_boxed(context, false, value, fresh, code)?;
     let common = common.copied(context.alloc)?;
@@ -277,7 +306,9 @@ fn emit_binary(
     right: &Expr,
     fresh: &mut Fresh,
     code: &mut FlatStmts,
-) -> Result<Formed, NoMemory> {
+) -> Result<Formed, NoMemory>
+    ensures { IfOk result (λ made. (ty : Ty) → (at : ℕ) → behind (plain_code code.old) ((form_emitter (callees_in context.now) (instance_in context.now) ty at (binary_form op (plain_expr left.now) (plain_expr right.now))).emit (plain_fresh fresh.old)) ≡ valued (plain_code code.new) (an_expr ty at (plain_form made.form)) made.fixed (plain_fresh fresh.new)) }
+{
     let left = emit_boxed(context, holds_call(right), left, fresh, code)?;
     let right = emit_boxed(context, false, right, fresh, code)?;
     Ok(open(Form::Binary { op, left, right }))
@@ -292,7 +323,9 @@ fn emit_choice(
     alternative: &Expr,
     fresh: &mut Fresh,
     code: &mut FlatStmts,
-) -> Result<Formed, NoMemory> {
+) -> Result<Formed, NoMemory>
+    ensures { IfOk result (λ made. (ty : Ty) → (at : ℕ) → behind (plain_code code.old) ((form_emitter (callees_in context.now) (instance_in context.now) ty at (choose_form (plain_expr cond.now) (plain_expr consequent.now) (plain_expr alternative.now))).emit (plain_fresh fresh.old)) ≡ valued (plain_code code.new) (an_expr ty at (plain_form made.form)) made.fixed (plain_fresh fresh.new)) }
+{
     let behind = holds_call(alternative);
     let cond = emit_boxed(context, holds_call(consequent) || behind, cond, fresh, code)?;
     let yes = emit_boxed(context, behind, consequent, fresh, code)?;
@@ -310,7 +343,9 @@ fn emit_method(
     value: &Option<Boxed<Expr>>,
     fresh: &mut Fresh,
     code: &mut FlatStmts,
-) -> Result<Formed, NoMemory> {
+) -> Result<Formed, NoMemory>
+    ensures { IfOk result (λ made. (ty : Ty) → (at : ℕ) → behind (plain_code code.old) ((form_emitter (callees_in context.now) (instance_in context.now) ty at (method_form resource count (plain_expr address.now) (plain_maybe_expr value.now))).emit (plain_fresh fresh.old)) ≡ valued (plain_code code.new) (an_expr ty at (plain_form made.form)) made.fixed (plain_fresh fresh.new)) }
+{
     let address = emit_boxed(context, expr_if_holds_call(value), address, fresh, code)?;
     let value = emit_expr_if(context, false, value, fresh, code)?;
     Ok(open(Form::Method {
@@ -332,7 +367,9 @@ fn emit_atomic(
     original: &Option<Location>,
     fresh: &mut Fresh,
     code: &mut FlatStmts,
-) -> Result<Formed, NoMemory> {
+) -> Result<Formed, NoMemory>
+    ensures { IfOk result (λ made. (ty : Ty) → (at : ℕ) → behind (plain_code code.old) ((form_emitter (callees_in context.now) (instance_in context.now) ty at (atomic_form (plain_target target.now) kind (plain_maybe_expr compare.now) (plain_expr value.now) (plain_maybe_location original.now))).emit (plain_fresh fresh.old)) ≡ valued (plain_code code.new) (an_expr ty at (plain_form made.form)) made.fixed (plain_fresh fresh.new)) }
+{
     let behind_value = place_if_holds_call(original);
     let behind_compare = holds_call(value) || behind_value;
     let behind_target = expr_if_holds_call(compare) || behind_compare;

@@ -3,13 +3,22 @@
 //! The arguments are put into the variables of the parameters. The body of the function follows, inside a name that its
 //! `return`s leave, and then the variables of `out` and `inout` parameters are written back.
 
+ghost use Rattle.std.specs.Prelude.{◌≡◌, ◌+◌, ◌∷◌, ◌++◌, [], List, IfOk, OnOk, length, option_map};
+ghost use Rattle.hl_meaning.specs.declared.program.Parameter.{Parameter};
+ghost use Rattle.hl_meaning.specs.Trees.{an_expr};
+ghost use Rattle.hl_meaning.specs.Views.{plain_arg, plain_args, plain_expr, plain_form, plain_function, plain_location, plain_ty};
+ghost use Rattle.hl_inline.specs.Building.{behind, callees_in, instance_in, laid_to, named_body, passed_behind, passed_to, plain_code, plain_fresh, valued};
+ghost use Rattle.hl_inline.specs.FlatTrees.{flat_local};
+ghost use Rattle.hl_inline.specs.FlatViews.{plain_flat_stmt};
+ghost use Rattle.hl_inline.specs.Flattening.{Inlined, arg_emitter, args_emitters, call, copy_back, inlined, inlined_at, laid_with, next_of, pass_all, start_value, with_instance};
+
+use crate::bodies::lay_function;
 use crate::context::{Context, shifted};
 use crate::copies::{copied_place, reading, reading_form};
-use crate::expressions::{Formed, emit};
+use crate::emitting::{Formed, emit};
 use crate::flat::{FlatStmt, FlatStmts};
 use crate::fresh::Fresh;
 use crate::places::emit_place;
-use crate::statements::lay_function;
 use base_core::NoMemory;
 use hl_meaning::{Arg, Copying, Expr, Form, FunctionDef, HlType, Location, Parameter};
 use sqlite_items::Boxed;
@@ -29,7 +38,9 @@ pub(crate) fn emit_call(
     args: &[Arg],
     fresh: &mut Fresh,
     code: &mut FlatStmts,
-) -> Result<Formed, NoMemory> {
+) -> Result<Formed, NoMemory>
+    ensures { IfOk result (λ made. behind (plain_code code.old) ((call (instance_in context.now) (plain_ty ty.now) at (inlined_at (callees_in context.now) function) (args_emitters (callees_in context.now) (instance_in context.now) (plain_args args.now))).emit (plain_fresh fresh.old)) ≡ valued (plain_code code.new) (an_expr (plain_ty ty.now) at (plain_form made.form)) made.fixed (plain_fresh fresh.new)) }
+{
     let number = function as usize;
     if number >= context.functions.len() {
         return Err(NoMemory);
@@ -61,7 +72,9 @@ pub(crate) fn emit_call(
 }
 
 /// The number of the variable of a result, behind the variables of the function.
-fn result_number(fresh: &Fresh, callee: &FunctionDef) -> u32 {
+fn result_number(fresh: &Fresh, callee: &FunctionDef) -> u32
+    ensures { result ≡ next_of (plain_fresh fresh.now) + length callee.now.variables }
+{
     (fresh.variables.len() + callee.variables.len()) as u32
 }
 
@@ -73,7 +86,9 @@ fn add_instance(
     ty: &HlType,
     at: usize,
     fresh: &mut Fresh,
-) -> Result<(), NoMemory> {
+) -> Result<(), NoMemory>
+    ensures { (k : List Inlined) → OnOk result (plain_fresh fresh.new ≡ with_instance (inlined k (plain_function callee.now)) (plain_ty ty.now) at (plain_fresh fresh.old)) }
+{
     fresh.take_name()?;
     fresh.add_copies(alloc, callee.variables.as_slice())?;
     match ty {
@@ -89,7 +104,9 @@ pub(crate) fn lay_named(
     callee: &FunctionDef,
     fresh: &mut Fresh,
     code: &mut FlatStmts,
-) -> Result<(), NoMemory> {
+) -> Result<(), NoMemory>
+    ensures { OnOk result (laid_with (plain_code code.old) (named_body (inlined (callees_in inner.now) (plain_function callee.now)) (instance_in inner.now) (plain_fresh fresh.old)) ≡ laid_to (plain_code code.new) (plain_fresh fresh.new)) }
+{
     let mut body = FlatStmts::new(inner.alloc);
     lay_function(inner, callee, fresh, &mut body)?;
     let body = Boxed::new(inner.alloc, FlatStmt::Block(body))?;
@@ -111,7 +128,9 @@ fn pass_all(
     fresh: &mut Fresh,
     code: &mut FlatStmts,
     copies: &mut FlatStmts,
-) -> Result<(), NoMemory> {
+) -> Result<(), NoMemory>
+    ensures { OnOk result (passed_behind (plain_code code.old) (plain_code copies.old) (pass_all (instance_in context.now) at number (args_emitters (callees_in context.now) (instance_in context.now) (plain_args args.now)) parameters.now (plain_fresh fresh.old)) ≡ passed_to (plain_code code.new) (plain_code copies.new) (plain_fresh fresh.new)) }
+{
     let count = args.len().min(parameters.len());
     for index in 0..count {
         let variable = shifted(number, index as u32)?;
@@ -140,7 +159,9 @@ fn pass(
     fresh: &mut Fresh,
     code: &mut FlatStmts,
     copies: &mut FlatStmts,
-) -> Result<(), NoMemory> {
+) -> Result<(), NoMemory>
+    ensures { (parameter : Parameter) → parameter.copying ≡ copying → OnOk result (passed_behind (plain_code code.old) (plain_code copies.old) (pass_all (instance_in context.now) at number (arg_emitter (callees_in context.now) (instance_in context.now) (plain_arg arg.now) ∷ []) (parameter ∷ []) (plain_fresh fresh.old)) ≡ passed_to (plain_code code.new) (plain_code copies.new) (plain_fresh fresh.new)) }
+{
     match arg {
         Arg::Value(value) => {
             let emitted = emit(context, value, fresh, code)?;
@@ -166,7 +187,10 @@ fn pass_place(
     copying: Copying,
     code: &mut FlatStmts,
     copies: &mut FlatStmts,
-) -> Result<(), NoMemory> {
+) -> Result<(), NoMemory>
+    ensures code { OnOk result (plain_code code.new ≡ plain_code code.old ++ flat_local number (start_value copying (plain_location to) at) ∷ []) }
+    ensures copies { OnOk result (plain_code copies.new ≡ plain_code copies.old ++ copy_back (plain_location to) at number ∷ []) }
+{
     let init = start_value(alloc, copying, &to, at)?;
     code.push(FlatStmt::Local {
         variable: number,
@@ -183,7 +207,9 @@ fn start_value(
     copying: Copying,
     place: &Location,
     at: usize,
-) -> Result<Option<Expr>, NoMemory> {
+) -> Result<Option<Expr>, NoMemory>
+    ensures { IfOk result (λ value. option_map plain_expr value ≡ start_value copying (plain_location place.now) at) }
+{
     match copying {
         Copying::CopyOut => Ok(None),
         Copying::CopyIn | Copying::CopyBoth => {
@@ -199,7 +225,9 @@ fn start_value(
 }
 
 /// Writes the variable of a parameter back to a place.
-fn copy_back(alloc: Global, to: Location, at: usize, number: u32) -> Result<FlatStmt, NoMemory> {
+fn copy_back(alloc: Global, to: Location, at: usize, number: u32) -> Result<FlatStmt, NoMemory>
+    ensures { IfOk result (λ stmt. plain_flat_stmt stmt ≡ copy_back (plain_location to) at number) }
+{
     let ty = to.ty.copied(alloc)?;
     let common = to.ty.copied(alloc)?;
     let value = reading(alloc, &to.ty, at, number)?;

@@ -3,9 +3,15 @@
 //! A loop has two names: the one that `break` leaves stands around it, and the one that `continue` leaves around its
 //! body.
 
+ghost use Rattle.std.specs.Prelude.{◌≡◌, ◌++◌, IfOk, OnOk, option_map};
+ghost use Rattle.hl_meaning.specs.Trees.{do_stmt, for_stmt, if_stmt, while_stmt};
+ghost use Rattle.hl_meaning.specs.Views.{plain_expr, plain_function, plain_maybe_stmt, plain_stmt, plain_stmts};
+ghost use Rattle.hl_inline.specs.Building.{callees_in, instance_in, laid_to, lay_turns, plain_code, plain_fresh, plain_jumps};
+ghost use Rattle.hl_inline.specs.Flattening.{Jumps, emitted, inlined, is_call, jumps_of, laid_with, lay, lay_all, lay_body, lay_if, lay_local, lay_return, lay_run, lay_run_if, lay_test, lay_test_if, set_to, with_jumps, zeros_first};
+
 use crate::context::{Context, Jumps, shifted};
 use crate::early::early_variables;
-use crate::expressions::emit;
+use crate::emitting::emit;
 use crate::flat::{FlatStmt, FlatStmts};
 use crate::fresh::Fresh;
 use crate::made::{as_alternative, as_one, choice, leave_unless, loop_of, named};
@@ -29,7 +35,9 @@ pub(crate) fn lay_function(
     function: &FunctionDef,
     fresh: &mut Fresh,
     code: &mut FlatStmts,
-) -> Result<(), NoMemory> {
+) -> Result<(), NoMemory>
+    ensures { OnOk result (laid_with (plain_code code.old) ((inlined (callees_in context.now) (plain_function function.now)).body (instance_in context.now) (plain_fresh fresh.old)) ≡ laid_to (plain_code code.new) (plain_fresh fresh.new)) }
+{
     lay_zeros(context, function, code)?;
     lay_all(context, OUTSIDE_LOOPS, &function.body, fresh, code)
 }
@@ -39,7 +47,9 @@ fn lay_zeros(
     context: &Context,
     function: &FunctionDef,
     code: &mut FlatStmts,
-) -> Result<(), NoMemory> {
+) -> Result<(), NoMemory>
+    ensures { OnOk result (plain_code code.new ≡ plain_code code.old ++ zeros_first (instance_in context.now) (plain_function function.now)) }
+{
     let early = early_variables(context.alloc, function)?;
     for number in early.as_slice() {
         let variable = shifted(context.first, *number)?;
@@ -59,7 +69,9 @@ fn lay_all(
     stmts: &Stmts,
     fresh: &mut Fresh,
     code: &mut FlatStmts,
-) -> Result<(), NoMemory> {
+) -> Result<(), NoMemory>
+    ensures { OnOk result (laid_with (plain_code code.old) (lay_all (callees_in context.now) (instance_in context.now) (plain_jumps jumps) (plain_stmts stmts.now) (plain_fresh fresh.old)) ≡ laid_to (plain_code code.new) (plain_fresh fresh.new)) }
+{
     for stmt in stmts.as_slice() {
         lay(context, jumps, stmt, fresh, code)?;
     }
@@ -74,7 +86,9 @@ fn lay(
     stmt: &Stmt,
     fresh: &mut Fresh,
     code: &mut FlatStmts,
-) -> Result<(), NoMemory> {
+) -> Result<(), NoMemory>
+    ensures { OnOk result (laid_with (plain_code code.old) (lay (callees_in context.now) (instance_in context.now) (plain_jumps jumps) (plain_stmt stmt.now) (plain_fresh fresh.old)) ≡ laid_to (plain_code code.new) (plain_fresh fresh.new)) }
+{
     match stmt {
         Stmt::Block(body) => {
             let mut inner = FlatStmts::new(context.alloc);
@@ -113,7 +127,9 @@ fn lay_if(
     stmt: &Option<Boxed<Stmt>>,
     fresh: &mut Fresh,
     code: &mut FlatStmts,
-) -> Result<(), NoMemory> {
+) -> Result<(), NoMemory>
+    ensures { OnOk result (laid_with (plain_code code.old) (lay_if (callees_in context.now) (instance_in context.now) (plain_jumps jumps) (plain_maybe_stmt stmt.now) (plain_fresh fresh.old)) ≡ laid_to (plain_code code.new) (plain_fresh fresh.new)) }
+{
     match stmt {
         Some(stmt) => lay(context, jumps, stmt.get(), fresh, code),
         None => Ok(()),
@@ -128,7 +144,9 @@ fn lay_local(
     init: &Option<Expr>,
     fresh: &mut Fresh,
     code: &mut FlatStmts,
-) -> Result<(), NoMemory> {
+) -> Result<(), NoMemory>
+    ensures { OnOk result (laid_with (plain_code code.old) (lay_local (callees_in context.now) (instance_in context.now) variable (option_map plain_expr init.now) (plain_fresh fresh.old)) ≡ laid_to (plain_code code.new) (plain_fresh fresh.new)) }
+{
     let variable = shifted(context.first, variable)?;
     match init {
         Some(init) => lay_set(context, variable, init, fresh, code),
@@ -150,7 +168,9 @@ fn lay_set(
     value: &Expr,
     fresh: &mut Fresh,
     code: &mut FlatStmts,
-) -> Result<(), NoMemory> {
+) -> Result<(), NoMemory>
+    ensures { OnOk result (laid_with (plain_code code.old) (set_to variable (emitted (callees_in context.now) (instance_in context.now) (plain_expr value.now) (plain_fresh fresh.old))) ≡ laid_to (plain_code code.new) (plain_fresh fresh.new)) }
+{
     let emitted = emit(context, value, fresh, code)?;
     code.push(FlatStmt::Local {
         variable,
@@ -166,7 +186,9 @@ fn lay_run(
     value: &Expr,
     fresh: &mut Fresh,
     code: &mut FlatStmts,
-) -> Result<(), NoMemory> {
+) -> Result<(), NoMemory>
+    ensures { OnOk result (laid_with (plain_code code.old) (lay_run (callees_in context.now) (instance_in context.now) (plain_expr value.now) (plain_fresh fresh.old)) ≡ laid_to (plain_code code.new) (plain_fresh fresh.new)) }
+{
     let emitted = emit(context, value, fresh, code)?;
     if is_call(value) {
         return Ok(());
@@ -176,7 +198,9 @@ fn lay_run(
 }
 
 /// Whether an expression is a call.
-fn is_call(expr: &Expr) -> bool {
+fn is_call(expr: &Expr) -> bool
+    ensures { result ≡ is_call (plain_expr expr.now) }
+{
     matches!(&expr.form, Form::Call { .. })
 }
 
@@ -187,7 +211,9 @@ fn lay_run_if(
     value: &Option<Expr>,
     fresh: &mut Fresh,
     code: &mut FlatStmts,
-) -> Result<(), NoMemory> {
+) -> Result<(), NoMemory>
+    ensures { OnOk result (laid_with (plain_code code.old) (lay_run_if (callees_in context.now) (instance_in context.now) (option_map plain_expr value.now) (plain_fresh fresh.old)) ≡ laid_to (plain_code code.new) (plain_fresh fresh.new)) }
+{
     match value {
         Some(value) => lay_run(context, value, fresh, code),
         None => Ok(()),
@@ -201,7 +227,9 @@ fn lay_return(
     value: &Option<Expr>,
     fresh: &mut Fresh,
     code: &mut FlatStmts,
-) -> Result<(), NoMemory> {
+) -> Result<(), NoMemory>
+    ensures { OnOk result (laid_with (plain_code code.old) (lay_return (callees_in context.now) (instance_in context.now) (option_map plain_expr value.now) (plain_fresh fresh.old)) ≡ laid_to (plain_code code.new) (plain_fresh fresh.new)) }
+{
     match value {
         Some(value) => {
             lay_set(context, context.result, value, fresh, code)?;
@@ -225,7 +253,9 @@ fn lay_choice(
     alternative: &Option<Boxed<Stmt>>,
     fresh: &mut Fresh,
     code: &mut FlatStmts,
-) -> Result<(), NoMemory> {
+) -> Result<(), NoMemory>
+    ensures { OnOk result (laid_with (plain_code code.old) (lay (callees_in context.now) (instance_in context.now) (plain_jumps jumps) (if_stmt (plain_expr cond.now) (plain_stmt consequent.now) (plain_maybe_stmt alternative.now)) (plain_fresh fresh.old)) ≡ laid_to (plain_code code.new) (plain_fresh fresh.new)) }
+{
     let emitted = emit(context, cond, fresh, code)?;
     let mut yes = FlatStmts::new(context.alloc);
     lay(context, jumps, consequent, fresh, &mut yes)?;
@@ -237,7 +267,10 @@ fn lay_choice(
 }
 
 /// The names of a loop.
-fn take_jumps(fresh: &mut Fresh) -> Result<Jumps, NoMemory> {
+fn take_jumps(fresh: &mut Fresh) -> Result<Jumps, NoMemory>
+    ensures jumps { IfOk result (λ jumps. plain_jumps jumps ≡ jumps_of (plain_fresh fresh.old)) }
+    ensures fresh { OnOk result (plain_fresh fresh.new ≡ with_jumps (plain_fresh fresh.old)) }
+{
     let break_name = fresh.take_name()?;
     let continue_name = fresh.take_name()?;
     Ok(Jumps {
@@ -257,7 +290,9 @@ fn lay_for(
     body: &Stmt,
     fresh: &mut Fresh,
     code: &mut FlatStmts,
-) -> Result<(), NoMemory> {
+) -> Result<(), NoMemory>
+    ensures { OnOk result (laid_with (plain_code code.old) (lay (callees_in context.now) (instance_in context.now) (plain_jumps jumps) (for_stmt (plain_stmts init.now) (option_map plain_expr cond.now) (option_map plain_expr step.now) (plain_stmt body.now)) (plain_fresh fresh.old)) ≡ laid_to (plain_code code.new) (plain_fresh fresh.new)) }
+{
     let mut block = FlatStmts::new(context.alloc);
     lay_all(context, jumps, init, fresh, &mut block)?;
     lay_turns(context, cond, step, body, fresh, &mut block)?;
@@ -274,7 +309,9 @@ fn lay_turns(
     body: &Stmt,
     fresh: &mut Fresh,
     code: &mut FlatStmts,
-) -> Result<(), NoMemory> {
+) -> Result<(), NoMemory>
+    ensures { OnOk result (laid_with (plain_code code.old) (lay_turns (callees_in context.now) (instance_in context.now) (option_map plain_expr cond.now) (option_map plain_expr step.now) (plain_stmt body.now) (plain_fresh fresh.old)) ≡ laid_to (plain_code code.new) (plain_fresh fresh.new)) }
+{
     let jumps = take_jumps(fresh)?;
     let mut turn = FlatStmts::new(context.alloc);
     lay_test_if(context, jumps.break_name, cond, fresh, &mut turn)?;
@@ -293,7 +330,9 @@ fn lay_while(
     body: &Stmt,
     fresh: &mut Fresh,
     code: &mut FlatStmts,
-) -> Result<(), NoMemory> {
+) -> Result<(), NoMemory>
+    ensures { (j : Jumps) → OnOk result (laid_with (plain_code code.old) (lay (callees_in context.now) (instance_in context.now) j (while_stmt (plain_expr cond.now) (plain_stmt body.now)) (plain_fresh fresh.old)) ≡ laid_to (plain_code code.new) (plain_fresh fresh.new)) }
+{
     let jumps = take_jumps(fresh)?;
     let mut turn = FlatStmts::new(context.alloc);
     lay_test(context, jumps.break_name, cond, fresh, &mut turn)?;
@@ -311,7 +350,9 @@ fn lay_do(
     cond: &Expr,
     fresh: &mut Fresh,
     code: &mut FlatStmts,
-) -> Result<(), NoMemory> {
+) -> Result<(), NoMemory>
+    ensures { (j : Jumps) → OnOk result (laid_with (plain_code code.old) (lay (callees_in context.now) (instance_in context.now) j (do_stmt (plain_stmt body.now) (plain_expr cond.now)) (plain_fresh fresh.old)) ≡ laid_to (plain_code code.new) (plain_fresh fresh.new)) }
+{
     let jumps = take_jumps(fresh)?;
     let mut turn = FlatStmts::new(context.alloc);
     lay_body(context, jumps, body, fresh, &mut turn)?;
@@ -329,7 +370,9 @@ fn lay_body(
     body: &Stmt,
     fresh: &mut Fresh,
     code: &mut FlatStmts,
-) -> Result<(), NoMemory> {
+) -> Result<(), NoMemory>
+    ensures { OnOk result (laid_with (plain_code code.old) (lay_body jumps.continue_name (lay (callees_in context.now) (instance_in context.now) (plain_jumps jumps) (plain_stmt body.now) (plain_fresh fresh.old))) ≡ laid_to (plain_code code.new) (plain_fresh fresh.new)) }
+{
     let mut inner = FlatStmts::new(context.alloc);
     lay(context, jumps, body, fresh, &mut inner)?;
     let stmt = named(context.alloc, jumps.continue_name, inner)?;
@@ -345,7 +388,9 @@ fn lay_test(
     cond: &Expr,
     fresh: &mut Fresh,
     code: &mut FlatStmts,
-) -> Result<(), NoMemory> {
+) -> Result<(), NoMemory>
+    ensures { OnOk result (laid_with (plain_code code.old) (lay_test (callees_in context.now) (instance_in context.now) name (plain_expr cond.now) (plain_fresh fresh.old)) ≡ laid_to (plain_code code.new) (plain_fresh fresh.new)) }
+{
     let emitted = emit(context, cond, fresh, code)?;
     let stmt = leave_unless(context.alloc, name, emitted.value)?;
     code.push(stmt)?;
@@ -360,7 +405,9 @@ fn lay_test_if(
     cond: &Option<Expr>,
     fresh: &mut Fresh,
     code: &mut FlatStmts,
-) -> Result<(), NoMemory> {
+) -> Result<(), NoMemory>
+    ensures { OnOk result (laid_with (plain_code code.old) (lay_test_if (callees_in context.now) (instance_in context.now) name (option_map plain_expr cond.now) (plain_fresh fresh.old)) ≡ laid_to (plain_code code.new) (plain_fresh fresh.new)) }
+{
     match cond {
         Some(cond) => lay_test(context, name, cond, fresh, code),
         None => Ok(()),

@@ -1,0 +1,98 @@
+-- What is built so far, as plain data: statements and what is free, behind which more is emitted.
+use Rattle.std.specs.Prelude.{ℕ, suc, Bool, if◌then◌else◌, List, [], ◌∷◌, ◌++◌, map, Option}
+use Rattle.hl_meaning.specs.declared.program.FunctionDef.{FunctionDef}
+use Rattle.hl_meaning.specs.Trees.{Expr, PathPart, PathParts, Stmt, index_part, more_parts, no_parts}
+use Rattle.hl_meaning.specs.Views.{plain_function, plain_variable}
+use Rattle.hl_inline.specs.declared.context.Context.{Context}
+use Rattle.hl_inline.specs.declared.context.Jumps.{Jumps}
+use Rattle.hl_inline.specs.declared.fresh.Fresh.{Fresh}
+use Rattle.hl_inline.specs.declared.flat.FlatStmt.{FlatStmt}
+use Rattle.hl_inline.specs.FlatTrees as plain
+use Rattle.hl_inline.specs.FlatTrees.{flat_block, flat_named}
+use Rattle.hl_inline.specs.FlatViews.{flat_stmts_of, plain_flat_stmt}
+use Rattle.hl_inline.specs.Flattening as flattening
+use Rattle.hl_inline.specs.Flattening.{Emitter, Inlined, Instance, Laid, Passed, Valued, Values, any_calls, inlined_after, jumps_of, laid, laid_then, lay, lay_body, lay_loop, lay_run_if, lay_test_if, part_emitters, parts_emitters, with_jumps}
+use Rattle.hl_inline.specs.Operands.{first_expr}
+
+-- what is held
+
+abbrev pub plain_code : List FlatStmt → List plain.FlatStmt
+plain_code code = map plain_flat_stmt code
+
+abbrev pub plain_fresh : Fresh → flattening.Fresh
+plain_fresh fresh = record { variables = map plain_variable fresh.variables; names = fresh.names }
+
+abbrev pub plain_jumps : Jumps → flattening.Jumps
+plain_jumps j = record { break_name = j.break_name; continue_name = j.continue_name }
+
+-- where the function stands
+abbrev pub instance_in : Context → Instance
+instance_in c = record { first = c.first; result = c.result; exit = c.exit }
+
+-- functions as they are called
+abbrev pub inlined_all : List FunctionDef → List Inlined
+inlined_all functions = inlined_after [] (map plain_function functions)
+
+-- the functions that it may call
+abbrev pub callees_in : Context → List Inlined
+callees_in c = inlined_all c.functions.now
+
+-- what is emitted, behind statements
+
+abbrev pub valued : List plain.FlatStmt → Expr → (fixed : Bool) → flattening.Fresh → Valued
+valued code value fixed fresh = record { code = code; value = value; fixed = fixed; fresh = fresh }
+
+abbrev pub behind : List plain.FlatStmt → Valued → Valued
+behind code x = valued (code ++ x.code) x.value x.fixed x.fresh
+
+abbrev pub laid_to : List plain.FlatStmt → flattening.Fresh → Laid
+laid_to code fresh = record { code = code; fresh = fresh }
+
+abbrev pub passed_to : (code copies : List plain.FlatStmt) → flattening.Fresh → Passed
+passed_to code copies fresh = record { code = code; copies = copies; fresh = fresh }
+
+abbrev pub passed_behind : (code copies : List plain.FlatStmt) → Passed → Passed
+passed_behind code copies x = passed_to (code ++ x.code) (copies ++ x.copies) x.fresh
+
+-- statements, and then what is made of expressions
+pub record Made (A : Type 0) : Type 0 where
+  pub code : List plain.FlatStmt
+  pub value : A
+  pub fresh : flattening.Fresh
+
+abbrev pub made : {A : Type 0} → List plain.FlatStmt → A → flattening.Fresh → Made A
+made code value fresh = record { code = code; value = value; fresh = fresh }
+
+-- an operand, whose value stays as it is
+abbrev pub operand_behind : List plain.FlatStmt → Valued → Made Expr
+operand_behind code x = made (code ++ x.code) x.value x.fresh
+
+-- what is made of the values of operands
+abbrev pub made_behind : {A : Type 0} → List plain.FlatStmt → (List Expr → A) → Values → Made A
+made_behind code fill x = made (code ++ x.code) (fill x.values) x.fresh
+
+-- one step with another index
+abbrev pub filled_part : PathPart → List Expr → PathPart
+filled_part (index_part index) es = index_part (first_expr es)
+filled_part part es = part
+
+-- the body of a function, inside the name that its `return`s leave
+abbrev pub named_body : Inlined → Instance → flattening.Fresh → Laid
+named_body f i fresh = laid (flat_named i.exit (flat_block (flat_stmts_of (f.body i fresh).code))) (f.body i fresh).fresh
+
+-- the turns of a `for`
+abbrev pub lay_turns : List Inlined → Instance → (cond step : Option Expr) → Stmt → flattening.Fresh → Laid
+lay_turns k i cond step body fresh =
+    lay_loop fresh.names (laid_then (lay_test_if k i fresh.names cond (with_jumps fresh)) (λ fresh'.
+    laid_then (lay_body (suc fresh.names) (lay k i (jumps_of fresh) body fresh')) (λ fresh''. lay_run_if k i step fresh'')))
+
+-- how many there are up to the last that holds a call, and 0 where none does
+abbrev pub last_calling : List Emitter → ℕ
+last_calling [] = 0
+last_calling (e ∷ es) = if any_calls es then suc (last_calling es) else (if e.calls then 1 else 0)
+
+-- the same of steps
+abbrev pub last_part_calling : List Inlined → Instance → PathParts → ℕ
+last_part_calling k i no_parts = 0
+last_part_calling k i (more_parts first rest) =
+    if any_calls (parts_emitters k i rest) then suc (last_part_calling k i rest) else (if any_calls (part_emitters k i first) then 1 else 0)

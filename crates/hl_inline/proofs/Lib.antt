@@ -15,3 +15,7 @@ pub mod Typed
 pub mod Covered
 pub mod Expressions
 pub mod KindParts
+pub mod Gathering
+pub mod Copies
+pub mod Held
+pub mod Marks

@@ -1,3 +1,8 @@
+pub mod FlatPlain
+pub mod BuildingLemmas
+pub mod LastLemmas
+pub mod EmittingLemmas
+pub mod WalkLemmas
 pub mod Induction
 pub mod ProgressLemmas
 pub mod OperandLemmas

@@ -1,8 +1,10 @@
 -- What is built so far, as plain data: statements and what is free, behind which more is emitted.
-use Rattle.std.specs.Prelude.{ℕ, suc, Bool, if◌then◌else◌, List, [], ◌∷◌, ◌++◌, map, Option}
+use Rattle.std.specs.Prelude.{ℕ, zero, suc, Bool, if◌then◌else◌, List, [], ◌∷◌, ◌++◌, map, Option}
+use Rattle.hl_meaning.specs.declared.expression.Expr as held_expr
+use Rattle.hl_meaning.specs.declared.expression.PathPart as held_part
 use Rattle.hl_meaning.specs.declared.program.FunctionDef.{FunctionDef}
-use Rattle.hl_meaning.specs.Trees.{Expr, PathPart, PathParts, Stmt, index_part, more_parts, no_parts}
-use Rattle.hl_meaning.specs.Views.{plain_function, plain_variable}
+use Rattle.hl_meaning.specs.Trees.{Expr, PathPart, Stmt, index_part}
+use Rattle.hl_meaning.specs.Views.{plain_expr, plain_function, plain_part, plain_variable}
 use Rattle.hl_inline.specs.declared.context.Context.{Context}
 use Rattle.hl_inline.specs.declared.context.Jumps.{Jumps}
 use Rattle.hl_inline.specs.declared.fresh.Fresh.{Fresh}
@@ -11,7 +13,7 @@ use Rattle.hl_inline.specs.FlatTrees as plain
 use Rattle.hl_inline.specs.FlatTrees.{flat_block, flat_named}
 use Rattle.hl_inline.specs.FlatViews.{flat_stmts_of, plain_flat_stmt}
 use Rattle.hl_inline.specs.Flattening as flattening
-use Rattle.hl_inline.specs.Flattening.{Emitter, Inlined, Instance, Laid, Passed, Valued, Values, any_calls, inlined_after, jumps_of, laid, laid_then, lay, lay_body, lay_loop, lay_run_if, lay_test_if, part_emitters, parts_emitters, with_jumps}
+use Rattle.hl_inline.specs.Flattening.{Inlined, Instance, Laid, Passed, Valued, Values, any_calls, emitter, inlined_after, jumps_of, laid, laid_then, lay, lay_body, lay_loop, lay_run_if, lay_test_if, part_emitters, with_jumps}
 use Rattle.hl_inline.specs.Operands.{first_expr}
 
 -- what is held
@@ -86,13 +88,19 @@ lay_turns k i cond step body fresh =
     lay_loop fresh.names (laid_then (lay_test_if k i fresh.names cond (with_jumps fresh)) (λ fresh'.
     laid_then (lay_body (suc fresh.names) (lay k i (jumps_of fresh) body fresh')) (λ fresh''. lay_run_if k i step fresh'')))
 
--- how many there are up to the last that holds a call, and 0 where none does
-abbrev pub last_calling : List Emitter → ℕ
-last_calling [] = 0
-last_calling (e ∷ es) = if any_calls es then suc (last_calling es) else (if e.calls then 1 else 0)
+-- One more in front of some: how many there are up to the last that is true, where `behind` counts those behind it.
+abbrev pub last_with : Bool → (behind : ℕ) → ℕ
+last_with first zero = if first then 1 else 0
+last_with first (suc behind) = suc (suc behind)
 
--- the same of steps
-abbrev pub last_part_calling : List Inlined → Instance → PathParts → ℕ
-last_part_calling k i no_parts = 0
-last_part_calling k i (more_parts first rest) =
-    if any_calls (parts_emitters k i rest) then suc (last_part_calling k i rest) else (if any_calls (part_emitters k i first) then 1 else 0)
+-- how many there are up to the last that is true, and 0 where none is
+abbrev pub last_true : List Bool → ℕ
+last_true [] = 0
+last_true (first ∷ rest) = last_with first (last_true rest)
+
+-- whether a call stands in an expression, or in a step
+abbrev pub expr_calls : List Inlined → Instance → held_expr.Expr → Bool
+expr_calls k i expr = (emitter k i (plain_expr expr)).calls
+
+abbrev pub part_calls : List Inlined → Instance → held_part.PathPart → Bool
+part_calls k i part = any_calls (part_emitters k i (plain_part part))

@@ -1,6 +1,6 @@
 //! Where a function stands in a program without calls.
 
-ghost use Rattle.std.specs.Prelude.{◌≡◌, ◌+◌, IfOk};
+ghost use Rattle.std.specs.Prelude.{◌≡◌, ◌+◌, ◌||◌, IfOk};
 
 use base_core::NoMemory;
 use hl_meaning::FunctionDef;
@@ -35,4 +35,11 @@ pub(crate) fn shifted(first: u32, number: u32) -> Result<u32, NoMemory>
         Some(sum) => Ok(sum),
         None => Err(NoMemory),
     }
+}
+
+/// Whether one or the other holds.
+pub(crate) fn either(one: bool, other: bool) -> bool
+    ensures { result ≡ (one || other) }
+{
+    one || other
 }

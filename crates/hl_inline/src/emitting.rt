@@ -12,7 +12,7 @@ ghost use Rattle.hl_inline.specs.Flattening.{emit_all, emitted, expr_if_emitters
 ghost use Rattle.hl_inline.specs.Operands.{filled_expr_if};
 
 use crate::calling::emit_call;
-use crate::context::Context;
+use crate::context::{Context, either};
 use crate::copies::{copied_parts, reading};
 use crate::flat::{FlatStmt, FlatStmts};
 use crate::fresh::Fresh;
@@ -327,7 +327,8 @@ fn emit_choice(
     ensures { IfOk result (λ made. (ty : Ty) → (at : ℕ) → behind (plain_code code.old) ((form_emitter (callees_in context.now) (instance_in context.now) ty at (choose_form (plain_expr cond.now) (plain_expr consequent.now) (plain_expr alternative.now))).emit (plain_fresh fresh.old)) ≡ valued (plain_code code.new) (an_expr ty at (plain_form made.form)) made.fixed (plain_fresh fresh.new)) }
 {
     let behind = holds_call(alternative);
-    let cond = emit_boxed(context, holds_call(consequent) || behind, cond, fresh, code)?;
+    let behind_cond = either(holds_call(consequent), behind);
+    let cond = emit_boxed(context, behind_cond, cond, fresh, code)?;
     let yes = emit_boxed(context, behind, consequent, fresh, code)?;
     let no = emit_boxed(context, false, alternative, fresh, code)?;
     Ok(open(Form::Choose { cond, yes, no }))
@@ -371,8 +372,8 @@ fn emit_atomic(
     ensures { IfOk result (λ made. (ty : Ty) → (at : ℕ) → behind (plain_code code.old) ((form_emitter (callees_in context.now) (instance_in context.now) ty at (atomic_form (plain_target target.now) kind (plain_maybe_expr compare.now) (plain_expr value.now) (plain_maybe_location original.now))).emit (plain_fresh fresh.old)) ≡ valued (plain_code code.new) (an_expr ty at (plain_form made.form)) made.fixed (plain_fresh fresh.new)) }
 {
     let behind_value = place_if_holds_call(original);
-    let behind_compare = holds_call(value) || behind_value;
-    let behind_target = expr_if_holds_call(compare) || behind_compare;
+    let behind_compare = either(holds_call(value), behind_value);
+    let behind_target = either(expr_if_holds_call(compare), behind_compare);
     let target = emit_target(context, behind_target, target, fresh, code)?;
     let compare = emit_expr_if(context, behind_compare, compare, fresh, code)?;
     let value = emit_boxed(context, behind_value, value, fresh, code)?;

@@ -1,10 +1,11 @@
 //! Whether calls stand in expressions.
 
-ghost use Rattle.std.specs.Prelude.{◌≡◌, List};
-ghost use Rattle.hl_meaning.specs.Views.{plain_expr, plain_exprs, plain_location, plain_maybe_expr, plain_maybe_location, plain_part, plain_parts, plain_root, plain_target};
-ghost use Rattle.hl_inline.specs.Building.{last_calling, last_part_calling};
-ghost use Rattle.hl_inline.specs.Flattening.{Inlined, Instance, any_calls, emitter, expr_if_emitters, exprs_emitters, part_emitters, place_emitters, place_if_emitters, root_emitters, target_emitters};
+ghost use Rattle.std.specs.Prelude.{◌≡◌, List, map};
+ghost use Rattle.hl_meaning.specs.Views.{plain_expr, plain_location, plain_maybe_expr, plain_maybe_location, plain_part, plain_root, plain_target};
+ghost use Rattle.hl_inline.specs.Building.{expr_calls, last_true, part_calls};
+ghost use Rattle.hl_inline.specs.Flattening.{Inlined, Instance, any_calls, emitter, expr_if_emitters, part_emitters, place_emitters, place_if_emitters, root_emitters, target_emitters};
 
+use crate::context::either;
 use hl_meaning::{Expr, Form, Location, PathPart, Root, Target};
 use sqlite_items::Boxed;
 
@@ -16,19 +17,20 @@ pub(crate) fn holds_call(expr: &Expr) -> bool
     match &expr.form {
         Form::Literal(_) => false,
         Form::Read(place) => place_holds_call(place),
-        Form::Write { to, value, .. } => place_holds_call(to) || holds_call(value.get()),
+        Form::Write { to, value, .. } => either(place_holds_call(to), holds_call(value.get())),
         Form::Convert(value) => holds_call(value.get()),
         Form::Unary { value, .. } => holds_call(value.get()),
-        Form::Binary { left, right, .. } => holds_call(left.get()) || holds_call(right.get()),
+        Form::Binary { left, right, .. } => either(holds_call(left.get()), holds_call(right.get())),
         Form::Choose { cond, yes, no } => {
-            holds_call(cond.get()) || holds_call(yes.get()) || holds_call(no.get())
+            let branches = either(holds_call(yes.get()), holds_call(no.get()));
+            either(holds_call(cond.get()), branches)
         }
         Form::Build(parts) => last_call(parts.as_slice()) > 0,
         Form::Pick { value, .. } => holds_call(value.get()),
         Form::Call { .. } => true,
         Form::Intrinsic { args, .. } => last_call(args.as_slice()) > 0,
         Form::Method { address, value, .. } => {
-            holds_call(address.get()) || expr_if_holds_call(value)
+            either(holds_call(address.get()), expr_if_holds_call(value))
         }
         Form::Atomic {
             target,
@@ -37,10 +39,9 @@ pub(crate) fn holds_call(expr: &Expr) -> bool
             original,
             ..
         } => {
-            target_holds_call(target)
-                || expr_if_holds_call(compare)
-                || holds_call(value.get())
-                || place_if_holds_call(original)
+            let behind = either(holds_call(value.get()), place_if_holds_call(original));
+            let behind = either(expr_if_holds_call(compare), behind);
+            either(target_holds_call(target), behind)
         }
     }
 }
@@ -48,7 +49,7 @@ pub(crate) fn holds_call(expr: &Expr) -> bool
 /// How many of some expressions there are up to the last one that holds a call, and 0 where none does.
 #[cycle(holding)]
 pub(crate) fn last_call(exprs: &[Expr]) -> usize
-    ensures { (k : List Inlined) → (i : Instance) → result ≡ last_calling (exprs_emitters k i (plain_exprs exprs.now)) }
+    ensures { (k : List Inlined) → (i : Instance) → result ≡ last_true (map (expr_calls k i) exprs.now) }
 {
     let mut last = 0;
     for (index, expr) in exprs.iter().enumerate() {
@@ -62,7 +63,7 @@ pub(crate) fn last_call(exprs: &[Expr]) -> usize
 /// The same of the steps of a place.
 #[cycle(holding)]
 pub(crate) fn last_call_in_parts(parts: &[PathPart]) -> usize
-    ensures { (k : List Inlined) → (i : Instance) → result ≡ last_part_calling k i (plain_parts parts.now) }
+    ensures { (k : List Inlined) → (i : Instance) → result ≡ last_true (map (part_calls k i) parts.now) }
 {
     let mut last = 0;
     for (index, part) in parts.iter().enumerate() {
@@ -89,7 +90,10 @@ fn part_holds_call(part: &PathPart) -> bool
 fn place_holds_call(place: &Location) -> bool
     ensures { (k : List Inlined) → (i : Instance) → result ≡ any_calls (place_emitters k i (plain_location place.now)) }
 {
-    root_holds_call(&place.root) || last_call_in_parts(place.parts.as_slice()) > 0
+    either(
+        root_holds_call(&place.root),
+        last_call_in_parts(place.parts.as_slice()) > 0,
+    )
 }
 
 /// Whether a call stands in the root of a place.

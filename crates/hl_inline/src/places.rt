@@ -1,12 +1,12 @@
 //! What becomes of places. Their indexes are operands.
 
-ghost use Rattle.std.specs.Prelude.{◌≡◌, false, IfOk};
+ghost use Rattle.std.specs.Prelude.{◌≡◌, false, IfOk, map};
 ghost use Rattle.hl_meaning.specs.Views.{plain_location, plain_maybe_location, plain_part, plain_parts, plain_root, plain_target};
-ghost use Rattle.hl_inline.specs.Building.{callees_in, filled_part, instance_in, last_part_calling, made, made_behind, plain_code, plain_fresh};
+ghost use Rattle.hl_inline.specs.Building.{callees_in, filled_part, instance_in, last_true, made, made_behind, plain_code, plain_fresh, part_calls};
 ghost use Rattle.hl_inline.specs.Flattening.{emit_all, part_emitters, parts_emitters, place_emitters, place_if_emitters, root_emitters, target_emitters};
 ghost use Rattle.hl_inline.specs.Operands.{filled_parts, filled_place, filled_place_if, filled_root, filled_target};
 
-use crate::context::{Context, shifted};
+use crate::context::{Context, either, shifted};
 use crate::emitting::emit_boxed;
 use crate::flat::FlatStmts;
 use crate::fresh::Fresh;
@@ -29,7 +29,7 @@ pub(crate) fn emit_place(
     ensures { IfOk result (λ value. made_behind (plain_code code.old) (filled_place (instance_in context.now).first (plain_location place.now)) (emit_all further (place_emitters (callees_in context.now) (instance_in context.now) (plain_location place.now)) (plain_fresh fresh.old)) ≡ made (plain_code code.new) (plain_location value) (plain_fresh fresh.new)) }
 {
     let last = last_call_in_parts(place.parts.as_slice());
-    let root = emit_root(context, further || last > 0, &place.root, fresh, code)?;
+    let root = emit_root(context, either(further, last > 0), &place.root, fresh, code)?;
     let parts = emit_parts(context, further, last, &place.parts, fresh, code)?;
     let ty = place.ty.copied(context.alloc)?;
     Ok(Location { ty, root, parts })
@@ -73,12 +73,18 @@ fn emit_parts(
     fresh: &mut Fresh,
     code: &mut FlatStmts,
 ) -> Result<PathParts, NoMemory>
-    requires { last ≡ last_part_calling (callees_in context.now) (instance_in context.now) (plain_parts parts.now) }
+    requires { last ≡ last_true (map (part_calls (callees_in context.now) (instance_in context.now)) parts.now) }
     ensures { IfOk result (λ value. made_behind (plain_code code.old) (filled_parts (plain_parts parts.now)) (emit_all further (parts_emitters (callees_in context.now) (instance_in context.now) (plain_parts parts.now)) (plain_fresh fresh.old)) ≡ made (plain_code code.new) (plain_parts value) (plain_fresh fresh.new)) }
 {
     let mut made = PathParts::new(context.alloc);
     for (index, part) in parts.as_slice().iter().enumerate() {
-        let part = emit_part(context, further || index + 1 < last, part, fresh, code)?;
+        let part = emit_part(
+            context,
+            either(further, index + 1 < last),
+            part,
+            fresh,
+            code,
+        )?;
         made.push(part)?;
     }
     Ok(made)

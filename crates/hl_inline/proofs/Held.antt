@@ -1,84 +1,50 @@
--- Whether calls stand in lists of operands.
-use Rattle.std.proofs.Common.{◌≡◌, ◌∙◌, refl, ap, sym, ℕ, suc, ◌+◌, ◌<◌, ◌||◌, Bool, false, true, if◌then◌else◌, List, [], ◌∷◌, ◌++◌, arith, length, ltb, map}
-use Rattle.hl_meaning.specs.Trees.{PathPart, PathParts, Expr}
-use Rattle.hl_meaning.specs.Views.{exprs_of, parts_of}
-use Rattle.hl_inline.specs.Building.{last_calling, last_part_calling}
-use Rattle.hl_inline.specs.Flattening.{Emitter, Inlined, Instance, any_calls, emitter, exprs_emitters, part_emitters, parts_emitters}
+-- Whether calls stand among operands.
+use Rattle.std.proofs.Common.{◌≡◌, ◌∙◌, refl, ap, sym, ℕ, ◌+◌, ◌<◌, ◌||◌, Bool, false, List, [], ◌∷◌, ◌++◌, arith, get_or, length, ltb, map, take}
+use Rattle.std.proofs.lemmas.List.{length-map, length-take}
+use Rattle.hl_meaning.specs.declared.expression.Expr.{Expr}
+use Rattle.hl_meaning.specs.declared.expression.PathPart.{PathPart}
+use Rattle.hl_meaning.specs.declared.expression.Root.{Root}
+use Rattle.hl_meaning.specs.Trees as plain
+use Rattle.hl_meaning.specs.Views.{plain_expr, plain_exprs, plain_form, plain_part, plain_parts, plain_ty}
+use Rattle.hl_inline.specs.Building.{expr_calls, last_true, part_calls}
+use Rattle.hl_inline.specs.Flattening.{Emitter, Inlined, Instance, any_calls, emitter, exprs_emitters, form_emitter, part_emitters, parts_emitters}
+use Rattle.hl_inline.proofs.BuildingLemmas.{any-append, or-false}
+use Rattle.hl_inline.proofs.Copies.{expr-as}
+use Rattle.hl_inline.proofs.Gathering.{take-next}
+use Rattle.hl_inline.proofs.LastLemmas.{any_behind, any_true, last_more, with_last}
 
--- Whether one holds among some, and how many there are up to the last at which it does.
-abbrev pub any_held : List Bool → Bool
-any_held [] = false
-any_held (b ∷ bs) = b || any_held bs
+-- one operand, and one list in front of another
 
-abbrev pub last_held : List Bool → ℕ
-last_held [] = 0
-last_held (b ∷ bs) = if any_held bs then suc (last_held bs) else (if b then 1 else 0)
+pub one : (b : Bool) (e : Emitter) → b ≡ e.calls → b ≡ any_calls (e ∷ [])
+one b e is = is ∙ sym (or-false e.calls)
 
-pub any_held-append : (xs ys : List Bool) → any_held (xs ++ ys) ≡ (any_held xs || any_held ys)
-any_held-append [] ys = refl
-any_held-append (true ∷ xs) ys = refl
-any_held-append (false ∷ xs) ys = any_held-append xs ys
-
-pub last_held-none : (bs : List Bool) → any_held bs ≡ false → last_held bs ≡ 0
-last_held-none [] e = refl
-last_held-none (true ∷ bs) e = absurd (cc)
-last_held-none (false ∷ bs) e = rw e refl
-
--- one more
-pub last_held-more : (bs : List Bool) (b : Bool) → last_held (bs ++ b ∷ []) ≡ (if b then suc (length bs) else last_held bs)
-last_held-more [] true = refl
-last_held-more [] false = refl
-last_held-more (x ∷ bs) true = rw (any_held-append bs (true ∷ [])) (or-true (any_held bs) (ap suc (last_held-more bs true)))
-  where
-    or-true : {A : Type 0} {u v w : A} (a : Bool) → u ≡ w → (if (a || true) then u else v) ≡ w
-    or-true true e = e
-    or-true false e = e
-last_held-more (x ∷ bs) false = rw (any_held-append bs (false ∷ [])) (or-false (any_held bs) (ap suc (last_held-more bs false)))
-  where
-    or-false : {A : Type 0} {u v w : A} (a : Bool) → u ≡ w → (if (a || false) then u else v) ≡ (if a then w else v)
-    or-false true e = e
-    or-false false e = refl
-
-pub last_held-some : (bs : List Bool) → ltb 0 (last_held bs) ≡ any_held bs
-last_held-some [] = refl
-last_held-some (x ∷ bs) = by-rest (any_held bs) x refl
-  where
-    by-rest : (a x : Bool) → any_held bs ≡ a → ltb 0 (if any_held bs then suc (last_held bs) else (if x then 1 else 0)) ≡ (x || any_held bs)
-    by-rest true true e = rw e refl
-    by-rest true false e = rw e refl
-    by-rest false true e = rw e refl
-    by-rest false false e = rw e refl
-
--- of operands
-
-abbrev pub held_of : List Emitter → List Bool
-held_of es = map (λ e. e.calls) es
-
-pub any_calls-held : (es : List Emitter) → any_calls es ≡ any_held (held_of es)
-any_calls-held [] = refl
-any_calls-held (e ∷ es) = ap (λ b. e.calls || b) (any_calls-held es)
-
-pub last_calling-held : (es : List Emitter) → last_calling es ≡ last_held (held_of es)
-last_calling-held [] = refl
-last_calling-held (e ∷ es) = rw (any_calls-held es, last_calling-held es) refl
-
-pub any_calls-append : (xs ys : List Emitter) → any_calls (xs ++ ys) ≡ (any_calls xs || any_calls ys)
-any_calls-append [] ys = refl
-any_calls-append (x ∷ xs) ys = ap (λ b. x.calls || b) (any_calls-append xs ys) ∙ sym (or-assoc x.calls (any_calls xs) (any_calls ys))
-  where
-    or-assoc : (a b c : Bool) → ((a || b) || c) ≡ (a || (b || c))
-    or-assoc true b c = refl
-    or-assoc false b c = refl
+pub both : (r a b : Bool) (xs ys : List Emitter) → r ≡ (a || b) → a ≡ any_calls xs → b ≡ any_calls ys → r ≡ any_calls (xs ++ ys)
+both r a b xs ys e f g = e ∙ (ap (λ z. z || b) f ∙ (ap (λ z. any_calls xs || z) g ∙ sym (any-append xs ys)))
 
 module _ (k : List Inlined) (i : Instance) where
-  pub exprs-held : (es : List Expr) → held_of (exprs_emitters k i (exprs_of es)) ≡ map (λ e. (emitter k i e).calls) es
-  exprs-held [] = refl
-  exprs-held (e ∷ es) = ap (λ l. (emitter k i e).calls ∷ l) (exprs-held es)
+  -- an expression of a form
+  pub calls-as : (e : Expr) (form : plain.Form) → plain_form e.form ≡ form → expr_calls k i e ≡ (form_emitter k i (plain_ty e.ty) e.at form).calls
+  calls-as e form is = ap (λ x. (emitter k i x).calls) (expr-as e (plain_ty e.ty) form refl is)
 
-  pub parts-any : (ps : List PathPart) → any_calls (parts_emitters k i (parts_of ps)) ≡ any_held (map (λ p. any_calls (part_emitters k i p)) ps)
+  exprs-any : (es : List Expr) → any_calls (exprs_emitters k i (plain_exprs es)) ≡ any_true (map (expr_calls k i) es)
+  exprs-any [] = refl
+  exprs-any (e ∷ es) = ap (λ b. expr_calls k i e || b) (exprs-any es)
+
+  parts-any : (ps : List PathPart) → any_calls (parts_emitters k i (plain_parts ps)) ≡ any_true (map (part_calls k i) ps)
   parts-any [] = refl
-  parts-any (p ∷ ps) = any_calls-append (part_emitters k i p) (parts_emitters k i (parts_of ps)) ∙ ap (λ b. any_calls (part_emitters k i p) || b) (parts-any ps)
+  parts-any (p ∷ ps) = any-append (part_emitters k i (plain_part p)) (parts_emitters k i (plain_parts ps)) ∙ ap (λ b. part_calls k i p || b) (parts-any ps)
 
-  pub parts-last : (ps : List PathPart) → last_part_calling k i (parts_of ps) ≡ last_held (map (λ p. any_calls (part_emitters k i p)) ps)
-  parts-last [] = refl
-  parts-last (p ∷ ps) = rw (parts-any ps, parts-last ps) refl
+  -- there are some up to the last where there is one
+  pub exprs-last : (es : List Expr) (last : ℕ) → last ≡ last_true (map (expr_calls k i) es) → ltb 0 last ≡ any_calls (exprs_emitters k i (plain_exprs es))
+  exprs-last es last e = ap (ltb 0) e ∙ (sym (any_behind 0 (map (expr_calls k i) es)) ∙ sym (exprs-any es))
+
+  pub parts-last : (ps : List PathPart) (last : ℕ) → last ≡ last_true (map (part_calls k i) ps) → ltb 0 last ≡ any_calls (parts_emitters k i (plain_parts ps))
+  parts-last ps last e = ap (ltb 0) e ∙ (sym (any_behind 0 (map (part_calls k i) ps)) ∙ sym (parts-any ps))
+
+-- one more
+pub last-next : {A : Type 0} (f : A → Bool) (xs : List A) (j : ℕ) (x : A) (b : Bool) (last new : ℕ) → j < length xs → x ≡ get_or xs j x → last ≡ last_true (map f (take j xs))
+    → b ≡ f x → new ≡ with_last b j last → new ≡ last_true (map f (take (j + 1) xs))
+last-next f xs j x b last new within is e h grown =
+    let count : length (map f (take j xs)) ≡ j = omega (arith, length-map (take j xs) f, length-take j xs) in
+    grown ∙ (ap (λ l. with_last b j l) e ∙ (ap (λ n. with_last b n (last_true (map f (take j xs)))) (sym count) ∙ (ap (λ z. with_last z (length (map f (take j xs))) (last_true (map f (take j xs)))) h ∙
+    (sym (last_more (map f (take j xs)) (f x)) ∙ ap last_true (sym (take-next f xs j x within is))))))

@@ -24,3 +24,5 @@ pub mod Gathering
 pub mod Copies
 pub mod Held
 pub mod Marks
+pub mod Reaches
+pub mod Made

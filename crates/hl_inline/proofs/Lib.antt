@@ -26,3 +26,4 @@ pub mod Held
 pub mod Marks
 pub mod Reaches
 pub mod OneStatement
+pub mod Growing

@@ -1,16 +1,19 @@
 -- The variables that are reached early, found statement by statement.
-use Rattle.std.proofs.Common.{◌≡◌, ◌≢◌, ◌∙◌, refl, ap, sym, ℕ, zero, suc, ◌+◌, ◌<◌, ◌≤◌, ◌⊎◌, inl, inr, ◌||◌, Bool, false, true, if◌then◌else◌, List, [], ◌∷◌, ◌++◌, append-nil, arith, get_or, length, replicate}
+use Rattle.std.proofs.Common.{◌≡◌, ◌≢◌, ◌∙◌, refl, ap, sym, ℕ, zero, suc, ◌+◌, ◌<◌, ◌≤◌, ◌⊎◌, inl, inr, ◌||◌, Bool, false, true, if◌then◌else◌, List, [], ◌∷◌, ◌++◌, append-nil, arith, drop, get_or, length, map, replicate, take}
 use Rattle.std.specs.Prelude.{◌==◌, cond, filter, Option, None, Some}
 use Rattle.std.proofs.lemmas.Bool.{cases_eq, eq-eqb, eqb-true}
 use Rattle.std.proofs.lemmas.List.{get_or-replicate, get_or-set_other, get_or-set_same, length-replicate, length-set}
 use Rattle.std.proofs.lemmas.List.Elements.{filter-append}
 use Rattle.std.specs.List.{range_with_len}
 use Rattle.hl_meaning.specs.Trees.{Stmt, Stmts, block_stmt, break_stmt, continue_stmt, do_stmt, for_stmt, if_stmt, local_stmt, more_stmts, no_stmts, return_stmt, run_stmt, while_stmt}
-use Rattle.hl_inline.specs.Early.{declared_by, declared_in, is_in, undeclared}
+use Rattle.hl_meaning.specs.declared.statement.Stmt.{Stmt as HeldStmt}
+use Rattle.hl_meaning.specs.Views.{plain_stmt, plain_stmts, stmts_of}
+use Rattle.hl_inline.specs.Early.{declared_by, declared_in, early, early_in, is_in, undeclared}
 use Rattle.hl_inline.specs.IndexedVariables.{Mention}
 use Rattle.hl_inline.specs.Marking.{Marking, counts_of, declarations, declared_variable, mark, mark_all, mark_text, marked_numbers, marking}
 use Rattle.hl_inline.proofs.Flags.{or-assoc, or-false}
-use Rattle.hl_inline.proofs.Marks.{count-at, counts-same, length-counts, length-mark_all, text-marked}
+use Rattle.hl_inline.proofs.Gathering.{drop-next, take-next}
+use Rattle.hl_inline.proofs.Marks.{count-at, counts-same, declared_in-more, early_in-more, length-counts, length-mark_all, mark_all-append, text-marked}
 
 -- what statements declare, beside what is declared before
 
@@ -80,6 +83,48 @@ text-marking start end known marks text is counts reached =
     marking-as end known (mark_all (undeclared known text) marks)
     (reached ∙ (ap (λ s. mark_text s.counts text s.marks) is ∙ text-marked (length marks) known text marks refl))
     (counts ∙ (ap (λ s. s.counts) is ∙ ap (λ n. counts_of n known) (sym (length-mark_all (undeclared known text) marks))))
+
+-- one more statement whose declarations end
+pub undeclared-turn : (xs : List HeldStmt) (i : ℕ) (x : HeldStmt) (now end : Marking) (known : List ℕ) (marks : List Bool) → i < length xs → x ≡ get_or xs i x
+    → now ≡ marking (declared_in known (plain_stmts (drop i xs))) marks → end.marks ≡ now.marks
+    → ((size : ℕ) → (k : List ℕ) → now.counts ≡ counts_of size (declared_by k (plain_stmt x)) → end.counts ≡ counts_of size k)
+    → end ≡ marking (declared_in known (plain_stmts (drop (i + 1) xs))) marks
+undeclared-turn xs i x now end known marks within is e kept ends =
+    let rest = plain_stmts (drop (i + 1) xs) in
+    let front : now ≡ marking (declared_in (declared_by known (plain_stmt x)) rest) marks =
+    e ∙ ap (λ l. marking (declared_in known (plain_stmts l)) marks) (drop-next xs i x within is) in
+    marking-as end (declared_in known rest) marks (kept ∙ ap (λ m. m.marks) front)
+    (ends (length marks) (declared_in known rest) (ap (λ m. m.counts) front ∙ declared-in_front (length marks) known (plain_stmt x) rest))
+
+-- one more statement that is gone through
+pub reached-turn : (xs : List HeldStmt) (i : ℕ) (x : HeldStmt) (between end : Marking) (known : List ℕ) (marks : List Bool) → i < length xs → x ≡ get_or xs i x
+    → between ≡ marking (declared_in known (plain_stmts (take i xs)))
+        (mark_all (early (declared_in known (plain_stmts (take i xs))) (plain_stmt x)) (mark_all (early_in known (plain_stmts (take i xs))) marks))
+    → end.marks ≡ between.marks
+    → ((size : ℕ) → (k : List ℕ) → between.counts ≡ counts_of size k → end.counts ≡ counts_of size (declared_by k (plain_stmt x)))
+    → end ≡ marking (declared_in known (plain_stmts (take (i + 1) xs))) (mark_all (early_in known (plain_stmts (take (i + 1) xs))) marks)
+reached-turn xs i x between end known marks within is e kept declares =
+    let before = map plain_stmt (take i xs) in
+    let declared = declared_in known (stmts_of before) in
+    let marked = mark_all (early declared (plain_stmt x)) (mark_all (early_in known (stmts_of before)) marks) in
+    let more : map plain_stmt (take (i + 1) xs) ≡ before ++ plain_stmt x ∷ [] = take-next plain_stmt xs i x within is in
+    marking-as end (declared_by declared (plain_stmt x)) marked (kept ∙ ap (λ m. m.marks) e) (declares (length marked) declared (ap (λ m. m.counts) e)) ∙
+    (ap (λ d. marking d marked) (sym (ap (λ l. declared_in known (stmts_of l)) more ∙ declared_in-more known before (plain_stmt x))) ∙
+    ap (marking (declared_in known (plain_stmts (take (i + 1) xs))))
+    (sym (ap (λ l. mark_all (early_in known (stmts_of l)) marks) more ∙ (ap (λ l. mark_all l marks) (early_in-more known before (plain_stmt x)) ∙
+    mark_all-append (early_in known (stmts_of before)) (early declared (plain_stmt x)) marks))))
+
+-- marks of one list behind another
+
+pub then-marked : (known first second : List ℕ) (marks : List Bool) → marking known (mark_all second (mark_all first marks)) ≡ marking known (mark_all (first ++ second) marks)
+then-marked known first second marks = ap (marking known) (sym (mark_all-append first second marks))
+
+pub three-marked : (known first second third : List ℕ) (marks : List Bool) → marking known (mark_all third (mark_all second (mark_all first marks))) ≡ marking known (mark_all (first ++ (second ++ third)) marks)
+three-marked known first second third marks = then-marked known second third (mark_all first marks) ∙ then-marked known first (second ++ third) marks
+
+pub four-marked : (known first second third fourth : List ℕ) (marks : List Bool)
+    → marking known (mark_all fourth (mark_all third (mark_all second (mark_all first marks)))) ≡ marking known (mark_all (first ++ (second ++ (third ++ fourth))) marks)
+four-marked known first second third fourth marks = three-marked known second third fourth (mark_all first marks) ∙ then-marked known first (second ++ (third ++ fourth)) marks
 
 -- which marks are set
 

@@ -205,7 +205,8 @@ fn reach(reached: &mut Reached, stmt: &Stmt) -> Result<(), NoMemory>
             reach_value(reached, cond);
             Ok(())
         }
-        Stmt::Break | Stmt::Continue => Ok(()),
+        Stmt::Break => Ok(()),
+        Stmt::Continue => Ok(()),
         Stmt::Return(value) => {
             reach_if(reached, value);
             Ok(())
@@ -239,7 +240,8 @@ fn reach_value(reached: &mut Reached, value: &Expr)
 fn reach_if(reached: &mut Reached, value: &Option<Expr>)
     ensures { (known : List ℕ) → (marks : List Bool) → plain_reached reached.old ≡ marking known marks → plain_reached reached.new ≡ marking known (mark_all (undeclared known (expr_option_mentions (option_map plain_expr value.now))) marks) }
 {
-    if let Some(value) = value {
-        reach_value(reached, value);
+    match value {
+        Some(value) => reach_value(reached, value),
+        None => {}
     }
 }

@@ -1,7 +1,7 @@
 -- Variables and statements that are added one after another.
 use Rattle.std.proofs.Common.{◌≡◌, ◌∙◌, refl, ap, sym, ℕ, suc, ◌+◌, ◌<◌, ◌≤◌, List, [], ◌∷◌, ◌++◌, Option, None, Some, add-one, append-nil, append_assoc, ◌⊎◌, inl, inr, arith, drop, get_or, length, map, min, take}
 use Rattle.std.proofs.lemmas.Bool.{cases_lt}
-use Rattle.std.proofs.lemmas.List.{drop_all, map-append, take_all}
+use Rattle.std.proofs.lemmas.List.{drop_all, drop_more, map-append, take_all}
 use Rattle.hl_meaning.specs.declared.program.Constant.{Constant as HeldConstant}
 use Rattle.hl_meaning.specs.declared.program.Parameter.{Parameter}
 use Rattle.hl_meaning.specs.declared.program.Semantic.{Semantic}
@@ -103,10 +103,10 @@ kinds-known known structs ty same = ap (λ k. kinds_in k ty) same
 
 -- literals
 
-pub literals-next : (at : ℕ) (kinds : List Kind) (words : List ℕ) (i : ℕ) (kind : Kind) (word : ℕ) → i < length kinds → kind ≡ get_or kinds i kind → i < length words → word ≡ get_or words i word
-    → literals at (drop i kinds) (drop i words) ≡ an_expr (scalar_type kind) at (literal_form word) ∷ literals at (drop (i + 1) kinds) (drop (i + 1) words)
-literals-next at kinds words i kind word a b c d =
-    ap (λ l. literals at l (drop i words)) (drop-next kinds i kind a b) ∙ ap (λ l. literals at (kind ∷ drop (i + 1) kinds) l) (drop-next words i word c d)
+pub literals-next : (at : ℕ) (kinds : List Kind) (words : List ℕ) (i : ℕ) (kind : Kind) (word : ℕ) → i < length kinds → i < length words
+    → literals at (drop i kinds) (drop i words) ≡ an_expr (scalar_type (get_or kinds i kind)) at (literal_form (get_or words i word)) ∷ literals at (drop (i + 1) kinds) (drop (i + 1) words)
+literals-next at kinds words i kind word a b =
+    ap (λ l. literals at l (drop i words)) (drop_more kinds i kind a) ∙ ap (λ l. literals at (get_or kinds i kind ∷ drop (i + 1) kinds) l) (drop_more words i word b)
 
 literals-none : (at : ℕ) (kinds : List Kind) → literals at kinds [] ≡ []
 literals-none at [] = refl

@@ -2,8 +2,9 @@
 //!
 //! How often each variable is declared around a statement is counted. What a block declares ends with it.
 
-ghost use Rattle.std.specs.Prelude.{◌≡◌, ℕ, ◌^◌, ◌<◌, Bool, false, List, ◌∷◌, IfOk, OnOk, length, option_map, replicate};
+ghost use Rattle.std.specs.Prelude.{◌≡◌, ℕ, ◌^◌, ◌<◌, ◌≤◌, Bool, false, List, ◌∷◌, IfOk, OnOk, length, option_map, replicate};
 ghost use Rattle.std.specs.List.{range_with_len};
+ghost use Rattle.base_core.specs.Limits.{most_parts};
 ghost use Rattle.hl_meaning.specs.Views.{plain_expr, plain_function, plain_maybe_stmt, plain_stmt, plain_stmts};
 ghost use Rattle.hl_inline.specs.Early.{declared_by, declared_in, early, early_if, early_in, early_variables, parameter_numbers, undeclared};
 ghost use Rattle.hl_inline.specs.IndexedVariables.{expr_mentions, expr_option_mentions};
@@ -36,7 +37,8 @@ pub(crate) fn early_variables(alloc: Global, function: &FunctionDef) -> Result<W
 
 /// The variables of the parameters are declared from the start.
 fn at_start(alloc: Global, function: &FunctionDef) -> Result<Reached, NoMemory>
-    ensures { IfOk result (λ reached. plain_reached reached ≡ marking (parameter_numbers (plain_function function.now)) (replicate (length function.now.variables) false)) }
+    ensures start { IfOk result (λ reached. plain_reached reached ≡ marking (parameter_numbers (plain_function function.now)) (replicate (length function.now.variables) false)) }
+    ensures limit { length function.now.variables ≤ most_parts }
 {
     let mut declared = Vec::new(alloc);
     let mut early = Vec::new(alloc);

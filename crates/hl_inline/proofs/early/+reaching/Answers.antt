@@ -7,7 +7,7 @@ use Rattle.hl_meaning.proofs.Plain.{plain_stmt-Block, plain_stmt-Break, plain_st
 use Rattle.hl_inline.specs.Early.{declared_in, early, early_if, early_in, undeclared}
 use Rattle.hl_inline.specs.IndexedVariables.{expr_mentions, expr_option_mentions}
 use Rattle.hl_inline.specs.Marking.{mark_all, marking, plain_reached}
-use Rattle.hl_inline.proofs.Reaches.{four-marked, reached-turn, then-marked, three-marked}
+use Rattle.hl_inline.proofs.Reaches.{four-marked, reached-turn, then-marked, three-marked, with-items}
 use Rattle.hl_inline.proofs.early.+reaching.Goals as goal
 
 pub reach_each-loop-stmt-init : goal.reach_each-loop-stmt-init
@@ -19,7 +19,9 @@ reach_each-loop-stmt-preserved t c = λ known marks is.
     let before = plain_stmts (take c.loop-stmt.stmt-index xs) in
     reached-turn xs c.loop-stmt.stmt-index c.stmt-item.result (plain_reached c.reach.new.reached) _ known marks c.loop-stmt-test.true c.stmt-item.is
     (c.in_ok-reach.ensures (declared_in known before) (mark_all (early_in known before) marks) (c.loop-stmt.invariant known marks is)) refl
-    (λ size k e. c.in_ok-declare_by.ensures size k (c.as_mut_slice.ensures.value ∙ e))
+    (λ size k e.
+    with-items c.reach.new.reached.declared c.declare_by.new.declared c.as_mut_slice.result.now c.as_mut_slice.ensures.value c.declare_by.auto.declared ∙
+    c.in_ok-declare_by.ensures size k (c.as_mut_slice.ensures.value ∙ e))
 
 pub reach_each-returns : goal.reach_each-returns
 reach_each-returns t c = λ known marks is.

@@ -1,3 +1,4 @@
+pub mod InlinedLemmas
 pub mod FlatPlain
 pub mod BuildingLemmas
 pub mod LastLemmas

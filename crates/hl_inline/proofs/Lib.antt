@@ -21,3 +21,12 @@ pub mod Typed
 pub mod Covered
 pub mod Expressions
 pub mod KindParts
+pub mod Gathering
+pub mod Flags
+pub mod GivenForms
+pub mod Held
+pub mod Marks
+pub mod Reaches
+pub mod OneStatement
+pub mod Growing
+pub mod Settled

@@ -8,14 +8,17 @@ mod context;
 mod copies;
 mod early;
 mod emitting;
+mod entry;
 mod flat;
 mod fresh;
 mod holding;
 mod inlining;
+mod layout;
 mod made;
 mod mentions;
 mod parts;
 mod places;
+mod settling;
 #[cfg(test)]
 mod tests;
 

@@ -1,3 +1,4 @@
+pub mod GivenEmissions
 pub mod InlinedLemmas
 pub mod FlatPlain
 pub mod BuildingLemmas

@@ -20,3 +20,9 @@ pub mod Typed
 pub mod Covered
 pub mod Expressions
 pub mod KindParts
+pub mod Gathering
+pub mod Copies
+pub mod Held
+pub mod Marks
+pub mod Reaches
+pub mod Made

@@ -5,5 +5,6 @@ pub mod FlatLane
 pub mod IndexedVariables
 pub mod Operands
 pub mod Early
+pub mod Marking
 pub mod Flattening
 pub mod Building

@@ -1,12 +1,17 @@
 //! Constants, which become variables that are set first.
 
-use crate::flat::{FlatStmt, FlatStmts};
-use base_core::{NoMemory, Sequence};
-use hl_meaning::{Constant, Expr, Exprs, Form, HlType, Kind, Member, StructDef};
-use std::alloc::Global;
+ghost use Rattle.std.specs.Prelude.{◌≡◌, List, [], ◌++◌, IfOk, OnOk, map};
+ghost use Rattle.hl_meaning.specs.Layout.{struct_kinds_after};
+ghost use Rattle.hl_meaning.specs.Programs.{StructDef};
+ghost use Rattle.hl_meaning.specs.Views.{plain_constant, plain_expr, plain_structs};
+ghost use Rattle.hl_inline.specs.Building.{plain_code};
+ghost use Rattle.hl_inline.specs.Flattening.{constant_value, literals, set_constants};
 
-/// The kinds of words, in order.
-type Kinds = Sequence<Kind>;
+use crate::flat::{FlatStmt, FlatStmts};
+use crate::layout::{Kinds, kinds_in, struct_kinds};
+use base_core::NoMemory;
+use hl_meaning::{Constant, Constants, Expr, Exprs, Form, HlType, Kind, StructDefs};
+use std::alloc::Global;
 
 /// Sets the variables of constants, of which the first has number 0.
 ///
@@ -14,14 +19,16 @@ type Kinds = Sequence<Kind>;
 /// `NoMemory` where memory is refused, as in each call below.
 pub(crate) fn set_constants(
     alloc: Global,
-    structs: &[StructDef],
-    constants: &[Constant],
+    structs: &StructDefs,
+    constants: &Constants,
     code: &mut FlatStmts,
-) -> Result<(), NoMemory> {
+) -> Result<(), NoMemory>
+    ensures { OnOk result (plain_code code.new ≡ plain_code code.old ++ set_constants (plain_structs structs.now) 0 (map plain_constant constants.now)) }
+{
     if constants.is_empty() {
         return Ok(());
     }
-    let known = struct_kinds(alloc, structs)?;
+    let known = struct_kinds(alloc, structs.as_slice())?;
     set_each(alloc, known.as_slice(), constants, code)
 }
 
@@ -29,10 +36,12 @@ pub(crate) fn set_constants(
 fn set_each(
     alloc: Global,
     known: &[Kinds],
-    constants: &[Constant],
+    constants: &Constants,
     code: &mut FlatStmts,
-) -> Result<(), NoMemory> {
-    for (number, constant) in constants.iter().enumerate() {
+) -> Result<(), NoMemory>
+    ensures { (structs : List StructDef) → known.now ≡ struct_kinds_after [] structs → OnOk result (plain_code code.new ≡ plain_code code.old ++ set_constants structs 0 (map plain_constant constants.now)) }
+{
+    for (number, constant) in constants.as_slice().iter().enumerate() {
         let value = constant_value(alloc, known, constant)?;
         code.push(FlatStmt::Local {
             variable: number as u32,
@@ -43,16 +52,13 @@ fn set_each(
 }
 
 /// The value of a constant, made of its words.
-fn constant_value(alloc: Global, known: &[Kinds], constant: &Constant) -> Result<Expr, NoMemory> {
+fn constant_value(alloc: Global, known: &[Kinds], constant: &Constant) -> Result<Expr, NoMemory>
+    ensures { (structs : List StructDef) → known.now ≡ struct_kinds_after [] structs → IfOk result (λ value. plain_expr value ≡ constant_value structs (plain_constant constant.now)) }
+{
     let variable = &constant.variable;
-    let mut kinds = Kinds::new(alloc);
-    add_kinds(alloc, known, &variable.ty, &mut kinds)?;
-    let parts = literals(
-        alloc,
-        variable.at,
-        kinds.as_slice(),
-        constant.words.as_slice(),
-    )?;
+    let kinds = kinds_in(alloc, known, &variable.ty)?;
+    let words = constant.words.as_slice();
+    let parts = literals(alloc, variable.at, kinds.as_slice(), words)?;
     let ty = variable.ty.copied(alloc)?;
     Ok(Expr {
         ty,
@@ -62,7 +68,9 @@ fn constant_value(alloc: Global, known: &[Kinds], constant: &Constant) -> Result
 }
 
 /// Words of these kinds, one literal each.
-fn literals(alloc: Global, at: usize, kinds: &[Kind], words: &[u32]) -> Result<Exprs, NoMemory> {
+fn literals(alloc: Global, at: usize, kinds: &[Kind], words: &[u32]) -> Result<Exprs, NoMemory>
+    ensures { IfOk result (λ parts. map plain_expr parts ≡ literals at kinds.now words.now) }
+{
     let mut parts = Exprs::new(alloc);
     let count = kinds.len().min(words.len());
     for index in 0..count {
@@ -73,62 +81,4 @@ fn literals(alloc: Global, at: usize, kinds: &[Kind], words: &[u32]) -> Result<E
         })?;
     }
     Ok(parts)
-}
-
-/// The kinds of the words of each struct.
-fn struct_kinds(alloc: Global, structs: &[StructDef]) -> Result<Vec<Kinds>, NoMemory> {
-    let mut known = Vec::new(alloc);
-    for structure in structs {
-        let kinds = member_kinds(alloc, known.as_slice(), structure.members.as_slice())?;
-        known.push(kinds)?;
-    }
-    Ok(known)
-}
-
-/// The kinds of the words of members, given those of the structs before.
-fn member_kinds(alloc: Global, known: &[Kinds], members: &[Member]) -> Result<Kinds, NoMemory> {
-    let mut kinds = Kinds::new(alloc);
-    for member in members {
-        add_kinds(alloc, known, &member.ty, &mut kinds)?;
-    }
-    Ok(kinds)
-}
-
-/// Adds the kinds of the words of a type.
-fn add_kinds(
-    alloc: Global,
-    known: &[Kinds],
-    ty: &HlType,
-    kinds: &mut Kinds,
-) -> Result<(), NoMemory> {
-    match ty {
-        HlType::Void => Ok(()),
-        HlType::Scalar(kind) => kinds.push(*kind),
-        HlType::Vector(kind, size) => add_alike(*kind, *size, kinds),
-        HlType::Array(element, length) => {
-            let mut part = Kinds::new(alloc);
-            add_kinds(alloc, known, element.get(), &mut part)?;
-            add_repeated(part.as_slice(), *length, kinds)
-        }
-        HlType::Struct(number) => match known.get(*number as usize) {
-            Some(part) => kinds.extend_from_slice(part.as_slice()),
-            None => Ok(()),
-        },
-    }
-}
-
-/// Adds a kind so many times.
-fn add_alike(kind: Kind, count: u8, kinds: &mut Kinds) -> Result<(), NoMemory> {
-    for _turn in 0..count {
-        kinds.push(kind)?;
-    }
-    Ok(())
-}
-
-/// Adds kinds so many times.
-fn add_repeated(part: &[Kind], count: u32, kinds: &mut Kinds) -> Result<(), NoMemory> {
-    for _turn in 0..count {
-        kinds.extend_from_slice(part)?;
-    }
-    Ok(())
 }

@@ -2,6 +2,13 @@
 //!
 //! How often each variable is declared around a statement is counted. What a block declares ends with it.
 
+ghost use Rattle.std.specs.Prelude.{◌≡◌, ℕ, ◌^◌, ◌<◌, Bool, false, List, ◌∷◌, IfOk, OnOk, length, option_map, replicate};
+ghost use Rattle.std.specs.List.{range_with_len};
+ghost use Rattle.hl_meaning.specs.Views.{plain_expr, plain_function, plain_maybe_stmt, plain_stmt, plain_stmts};
+ghost use Rattle.hl_inline.specs.Early.{declared_in, early, early_if, early_in, early_variables, parameter_numbers, undeclared};
+ghost use Rattle.hl_inline.specs.IndexedVariables.{expr_mentions, expr_option_mentions};
+ghost use Rattle.hl_inline.specs.Marking.{counts_of, declarations, mark_all, marked_numbers, marking, plain_reached};
+
 use crate::mentions::note_expr;
 use base_core::{NoMemory, Words};
 use hl_meaning::{Expr, FunctionDef, Stmt, Stmts};
@@ -19,30 +26,40 @@ pub(crate) struct Reached {
 ///
 /// # Errors
 /// `NoMemory` where memory is refused, as in each call below.
-pub(crate) fn early_variables(alloc: Global, function: &FunctionDef) -> Result<Words, NoMemory> {
+pub(crate) fn early_variables(alloc: Global, function: &FunctionDef) -> Result<Words, NoMemory>
+    ensures { IfOk result (λ numbers. numbers ≡ early_variables (plain_function function.now)) }
+{
     let mut reached = at_start(alloc, function)?;
     reach_all(&mut reached, &function.body)?;
     numbers_of(alloc, reached.early.as_slice())
 }
 
 /// The variables of the parameters are declared from the start.
-fn at_start(alloc: Global, function: &FunctionDef) -> Result<Reached, NoMemory> {
-    let count = function.variables.len();
+fn at_start(alloc: Global, function: &FunctionDef) -> Result<Reached, NoMemory>
+    ensures { IfOk result (λ reached. plain_reached reached ≡ marking (parameter_numbers (plain_function function.now)) (replicate (length function.now.variables) false)) }
+{
     let mut declared = Vec::new(alloc);
     let mut early = Vec::new(alloc);
-    for number in 0..count {
-        declared.push(if number < function.parameters.len() {
-            1
-        } else {
-            0
-        })?;
+    let parameters = function.parameters.len();
+    for number in 0..function.variables.len() {
+        declared.push(count_at_start(parameters, number))?;
         early.push(false)?;
     }
     Ok(Reached { declared, early })
 }
 
+/// How often a variable is declared at the start, behind so many parameters.
+fn count_at_start(parameters: usize, number: usize) -> u32
+    ensures { result ≡ declarations (range_with_len 0 parameters) number }
+{
+    if number < parameters { 1 } else { 0 }
+}
+
 /// The numbers of what is marked.
-fn numbers_of(alloc: Global, marks: &[bool]) -> Result<Words, NoMemory> {
+fn numbers_of(alloc: Global, marks: &[bool]) -> Result<Words, NoMemory>
+    requires { length marks.now < 2 ^ 32 }
+    ensures { IfOk result (λ numbers. numbers ≡ marked_numbers marks.now) }
+{
     let mut numbers = Words::new(alloc);
     for (number, mark) in marks.iter().enumerate() {
         if *mark {
@@ -53,7 +70,9 @@ fn numbers_of(alloc: Global, marks: &[bool]) -> Result<Words, NoMemory> {
 }
 
 /// Declares a variable.
-fn declare(declared: &mut [u32], variable: u32) -> Result<(), NoMemory> {
+fn declare(declared: &mut [u32], variable: u32) -> Result<(), NoMemory>
+    ensures { (size : ℕ) → (known : List ℕ) → declared.old ≡ counts_of size known → OnOk result (declared.new ≡ counts_of size (variable ∷ known)) }
+{
     let number = variable as usize;
     if number < declared.len() {
         let count = declared[number];
@@ -66,7 +85,9 @@ fn declare(declared: &mut [u32], variable: u32) -> Result<(), NoMemory> {
 }
 
 /// Ends the declaration of a variable.
-fn undeclare(declared: &mut [u32], variable: u32) {
+fn undeclare(declared: &mut [u32], variable: u32)
+    ensures { (size : ℕ) → (known : List ℕ) → declared.old ≡ counts_of size (variable ∷ known) → declared.new ≡ counts_of size known }
+{
     let number = variable as usize;
     if number < declared.len() && declared[number] > 0 {
         declared[number] -= 1;
@@ -74,7 +95,9 @@ fn undeclare(declared: &mut [u32], variable: u32) {
 }
 
 /// Ends the declarations among statements.
-fn undeclare_all(reached: &mut Reached, stmts: &Stmts) {
+fn undeclare_all(reached: &mut Reached, stmts: &Stmts)
+    ensures { (known : List ℕ) → (marks : List Bool) → plain_reached reached.old ≡ marking (declared_in known (plain_stmts stmts.now)) marks → plain_reached reached.new ≡ marking known marks }
+{
     for stmt in stmts.as_slice() {
         if let Stmt::Local { variable, .. } = stmt {
             undeclare(reached.declared.as_mut_slice(), *variable);
@@ -84,7 +107,9 @@ fn undeclare_all(reached: &mut Reached, stmts: &Stmts) {
 
 /// Statements as a block.
 #[cycle(reaching)]
-fn reach_all(reached: &mut Reached, stmts: &Stmts) -> Result<(), NoMemory> {
+fn reach_all(reached: &mut Reached, stmts: &Stmts) -> Result<(), NoMemory>
+    ensures { (known : List ℕ) → (marks : List Bool) → plain_reached reached.old ≡ marking known marks → OnOk result (plain_reached reached.new ≡ marking known (mark_all (early_in known (plain_stmts stmts.now)) marks)) }
+{
     reach_each(reached, stmts)?;
     undeclare_all(reached, stmts);
     Ok(())
@@ -92,7 +117,9 @@ fn reach_all(reached: &mut Reached, stmts: &Stmts) -> Result<(), NoMemory> {
 
 /// Statements one after another, whose declarations go on.
 #[cycle(reaching)]
-fn reach_each(reached: &mut Reached, stmts: &Stmts) -> Result<(), NoMemory> {
+fn reach_each(reached: &mut Reached, stmts: &Stmts) -> Result<(), NoMemory>
+    ensures { (known : List ℕ) → (marks : List Bool) → plain_reached reached.old ≡ marking known marks → OnOk result (plain_reached reached.new ≡ marking (declared_in known (plain_stmts stmts.now)) (mark_all (early_in known (plain_stmts stmts.now)) marks)) }
+{
     for stmt in stmts.as_slice() {
         reach(reached, stmt)?;
         if let Stmt::Local { variable, .. } = stmt {
@@ -104,7 +131,9 @@ fn reach_each(reached: &mut Reached, stmts: &Stmts) -> Result<(), NoMemory> {
 
 /// A statement.
 #[cycle(reaching)]
-fn reach(reached: &mut Reached, stmt: &Stmt) -> Result<(), NoMemory> {
+fn reach(reached: &mut Reached, stmt: &Stmt) -> Result<(), NoMemory>
+    ensures { (known : List ℕ) → (marks : List Bool) → plain_reached reached.old ≡ marking known marks → OnOk result (plain_reached reached.new ≡ marking known (mark_all (early known (plain_stmt stmt.now)) marks)) }
+{
     match stmt {
         Stmt::Block(body) => reach_all(reached, body),
         Stmt::Local { init, .. } => {
@@ -152,7 +181,9 @@ fn reach(reached: &mut Reached, stmt: &Stmt) -> Result<(), NoMemory> {
 
 /// A statement that may be there.
 #[cycle(reaching)]
-fn reach_alternative(reached: &mut Reached, stmt: &Option<Boxed<Stmt>>) -> Result<(), NoMemory> {
+fn reach_alternative(reached: &mut Reached, stmt: &Option<Boxed<Stmt>>) -> Result<(), NoMemory>
+    ensures { (known : List ℕ) → (marks : List Bool) → plain_reached reached.old ≡ marking known marks → OnOk result (plain_reached reached.new ≡ marking known (mark_all (early_if known (plain_maybe_stmt stmt.now)) marks)) }
+{
     match stmt {
         Some(stmt) => reach(reached, stmt.get()),
         None => Ok(()),
@@ -160,7 +191,9 @@ fn reach_alternative(reached: &mut Reached, stmt: &Option<Boxed<Stmt>>) -> Resul
 }
 
 /// An expression.
-fn reach_value(reached: &mut Reached, value: &Expr) {
+fn reach_value(reached: &mut Reached, value: &Expr)
+    ensures { (known : List ℕ) → (marks : List Bool) → plain_reached reached.old ≡ marking known marks → plain_reached reached.new ≡ marking known (mark_all (undeclared known (expr_mentions (plain_expr value.now))) marks) }
+{
     note_expr(
         value,
         reached.declared.as_slice(),
@@ -169,7 +202,9 @@ fn reach_value(reached: &mut Reached, value: &Expr) {
 }
 
 /// An expression that may be there.
-fn reach_if(reached: &mut Reached, value: &Option<Expr>) {
+fn reach_if(reached: &mut Reached, value: &Option<Expr>)
+    ensures { (known : List ℕ) → (marks : List Bool) → plain_reached reached.old ≡ marking known marks → plain_reached reached.new ≡ marking known (mark_all (undeclared known (expr_option_mentions (option_map plain_expr value.now))) marks) }
+{
     if let Some(value) = value {
         reach_value(reached, value);
     }

@@ -75,8 +75,8 @@ fn entry_code(
     let mut code = FlatStmts::new(alloc);
     set_constants(
         alloc,
-        program.structs.as_slice(),
-        program.constants.as_slice(),
+        &program.structs,
+        &program.constants,
         &mut code,
     )?;
     set_inputs(first, entry.parameters.as_slice(), &mut code)?;

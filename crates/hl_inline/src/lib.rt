@@ -12,6 +12,7 @@ mod flat;
 mod fresh;
 mod holding;
 mod inlining;
+mod layout;
 mod made;
 mod mentions;
 mod parts;

@@ -2,11 +2,19 @@
 //!
 //! Those that are not declared are marked.
 
+ghost use Rattle.std.specs.Prelude.{◌≡◌, ◌∷◌};
+ghost use Rattle.hl_meaning.specs.Trees.{PathParts};
+ghost use Rattle.hl_meaning.specs.Views.{plain_arg, plain_args, plain_expr, plain_exprs, plain_location, plain_maybe_expr, plain_maybe_location, plain_part, plain_parts, plain_root, plain_target};
+ghost use Rattle.hl_inline.specs.IndexedVariables.{arg_mentions, args_mentions, expr_if_mentions, expr_mentions, exprs_mentions, location_if_mentions, location_mentions, part_mentions, parts_mentions, place_mention, root_mentions, target_mentions};
+ghost use Rattle.hl_inline.specs.Marking.{mark_free, mark_text};
+
 use hl_meaning::{Arg, Expr, Form, Location, PathPart, Root, Target};
 use sqlite_items::Boxed;
 
 /// Marks the variable of a number, unless it is declared.
-fn note(number: u32, declared: &[u32], early: &mut [bool]) {
+fn note(number: u32, declared: &[u32], early: &mut [bool])
+    ensures { early.new ≡ mark_free declared.now number early.old }
+{
     let number = number as usize;
     if number < early.len() && number < declared.len() && declared[number] == 0 {
         early[number] = true;
@@ -15,7 +23,9 @@ fn note(number: u32, declared: &[u32], early: &mut [bool]) {
 
 /// Marks the variables that an expression names and that are not declared.
 #[cycle(noting)]
-pub(crate) fn note_expr(expr: &Expr, declared: &[u32], early: &mut [bool]) {
+pub(crate) fn note_expr(expr: &Expr, declared: &[u32], early: &mut [bool])
+    ensures { early.new ≡ mark_text declared.now (expr_mentions (plain_expr expr.now)) early.old }
+{
     match &expr.form {
         Form::Literal(_) => {}
         Form::Read(place) => note_place(place, declared, early),
@@ -62,7 +72,9 @@ pub(crate) fn note_expr(expr: &Expr, declared: &[u32], early: &mut [bool]) {
 
 /// The same of expressions.
 #[cycle(noting)]
-fn note_exprs(exprs: &[Expr], declared: &[u32], early: &mut [bool]) {
+fn note_exprs(exprs: &[Expr], declared: &[u32], early: &mut [bool])
+    ensures { early.new ≡ mark_text declared.now (exprs_mentions (plain_exprs exprs.now)) early.old }
+{
     for expr in exprs {
         note_expr(expr, declared, early);
     }
@@ -70,7 +82,9 @@ fn note_exprs(exprs: &[Expr], declared: &[u32], early: &mut [bool]) {
 
 /// The same of arguments.
 #[cycle(noting)]
-fn note_args(args: &[Arg], declared: &[u32], early: &mut [bool]) {
+fn note_args(args: &[Arg], declared: &[u32], early: &mut [bool])
+    ensures { early.new ≡ mark_text declared.now (args_mentions (plain_args args.now)) early.old }
+{
     for arg in args {
         note_arg(arg, declared, early);
     }
@@ -78,7 +92,9 @@ fn note_args(args: &[Arg], declared: &[u32], early: &mut [bool]) {
 
 /// The same of an argument.
 #[cycle(noting)]
-fn note_arg(arg: &Arg, declared: &[u32], early: &mut [bool]) {
+fn note_arg(arg: &Arg, declared: &[u32], early: &mut [bool])
+    ensures { early.new ≡ mark_text declared.now (arg_mentions (plain_arg arg.now)) early.old }
+{
     match arg {
         Arg::Value(value) => note_expr(value, declared, early),
         Arg::Place(place) => note_place(place, declared, early),
@@ -87,7 +103,9 @@ fn note_arg(arg: &Arg, declared: &[u32], early: &mut [bool]) {
 
 /// The same of the target of an atomic operation.
 #[cycle(noting)]
-fn note_target(target: &Target, declared: &[u32], early: &mut [bool]) {
+fn note_target(target: &Target, declared: &[u32], early: &mut [bool])
+    ensures { early.new ≡ mark_text declared.now (target_mentions (plain_target target.now)) early.old }
+{
     match target {
         Target::Place(place) => note_place(place, declared, early),
         Target::Bytes { address, .. } => note_expr(address.get(), declared, early),
@@ -96,7 +114,9 @@ fn note_target(target: &Target, declared: &[u32], early: &mut [bool]) {
 
 /// The same of an expression that may be there.
 #[cycle(noting)]
-fn note_expr_if(value: &Option<Boxed<Expr>>, declared: &[u32], early: &mut [bool]) {
+fn note_expr_if(value: &Option<Boxed<Expr>>, declared: &[u32], early: &mut [bool])
+    ensures { early.new ≡ mark_text declared.now (expr_if_mentions (plain_maybe_expr value.now)) early.old }
+{
     match value {
         Some(value) => note_expr(value.get(), declared, early),
         None => {}
@@ -105,7 +125,9 @@ fn note_expr_if(value: &Option<Boxed<Expr>>, declared: &[u32], early: &mut [bool
 
 /// The same of a place that may be there.
 #[cycle(noting)]
-fn note_place_if(place: &Option<Location>, declared: &[u32], early: &mut [bool]) {
+fn note_place_if(place: &Option<Location>, declared: &[u32], early: &mut [bool])
+    ensures { early.new ≡ mark_text declared.now (location_if_mentions (plain_maybe_location place.now)) early.old }
+{
     match place {
         Some(place) => note_place(place, declared, early),
         None => {}
@@ -114,14 +136,18 @@ fn note_place_if(place: &Option<Location>, declared: &[u32], early: &mut [bool])
 
 /// The same of a place.
 #[cycle(noting)]
-fn note_place(place: &Location, declared: &[u32], early: &mut [bool]) {
+fn note_place(place: &Location, declared: &[u32], early: &mut [bool])
+    ensures { early.new ≡ mark_text declared.now (location_mentions (plain_location place.now)) early.old }
+{
     note_root(&place.root, declared, early);
     note_parts(place.parts.as_slice(), declared, early);
 }
 
 /// The same of the root of a place.
 #[cycle(noting)]
-fn note_root(root: &Root, declared: &[u32], early: &mut [bool]) {
+fn note_root(root: &Root, declared: &[u32], early: &mut [bool])
+    ensures { (parts : PathParts) → early.new ≡ mark_text declared.now (place_mention (plain_root root.now) parts ∷ root_mentions (plain_root root.now)) early.old }
+{
     match root {
         Root::Variable(number) => note(*number, declared, early),
         Root::Element { index, .. } => note_expr(index.get(), declared, early),
@@ -131,7 +157,9 @@ fn note_root(root: &Root, declared: &[u32], early: &mut [bool]) {
 
 /// The same of steps.
 #[cycle(noting)]
-fn note_parts(parts: &[PathPart], declared: &[u32], early: &mut [bool]) {
+fn note_parts(parts: &[PathPart], declared: &[u32], early: &mut [bool])
+    ensures { early.new ≡ mark_text declared.now (parts_mentions (plain_parts parts.now)) early.old }
+{
     for part in parts {
         note_part(part, declared, early);
     }
@@ -139,7 +167,9 @@ fn note_parts(parts: &[PathPart], declared: &[u32], early: &mut [bool]) {
 
 /// The same of a step.
 #[cycle(noting)]
-fn note_part(part: &PathPart, declared: &[u32], early: &mut [bool]) {
+fn note_part(part: &PathPart, declared: &[u32], early: &mut [bool])
+    ensures { early.new ≡ mark_text declared.now (part_mentions (plain_part part.now)) early.old }
+{
     match part {
         PathPart::Index(index) => note_expr(index.get(), declared, early),
         PathPart::Member(_) | PathPart::Swizzle(_) => {}

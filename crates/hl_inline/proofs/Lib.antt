@@ -1,3 +1,6 @@
+pub mod Weights
+pub mod LayingLemmas
+pub mod CalleeLemmas
 pub mod FlatPlain
 pub mod BuildingLemmas
 pub mod LastLemmas

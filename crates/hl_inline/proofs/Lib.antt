@@ -24,8 +24,9 @@ pub mod Covered
 pub mod Expressions
 pub mod KindParts
 pub mod Gathering
-pub mod Copies
+pub mod GivenForms
 pub mod Held
 pub mod Marks
 pub mod Reaches
-pub mod Made
+pub mod OneStatement
+pub mod Growing

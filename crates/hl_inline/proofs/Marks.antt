@@ -11,7 +11,7 @@ use Rattle.hl_meaning.specs.Views.{plain_expr, plain_form, plain_ty, stmts_of}
 use Rattle.hl_inline.specs.Early.{declared_by, declared_in, early, early_in, is_in, undeclared}
 use Rattle.hl_inline.specs.IndexedVariables.{Mention, call_mention, expr_mentions, form_mentions, place_mention}
 use Rattle.hl_inline.specs.Marking.{counts_of, declarations, mark, mark_all, mark_free, mark_mention, mark_text}
-use Rattle.hl_inline.proofs.Copies.{expr-as}
+use Rattle.hl_inline.proofs.GivenForms.{expr-as}
 use Rattle.hl_inline.proofs.Gathering.{drop-next}
 
 -- one text after another

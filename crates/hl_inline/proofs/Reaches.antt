@@ -1,15 +1,16 @@
 -- The variables that are reached early, found statement by statement.
 use Rattle.std.proofs.Common.{◌≡◌, ◌≢◌, ◌∙◌, refl, ap, sym, ℕ, zero, suc, ◌+◌, ◌<◌, ◌≤◌, ◌⊎◌, inl, inr, ◌||◌, Bool, false, true, if◌then◌else◌, List, [], ◌∷◌, ◌++◌, append-nil, arith, get_or, length, replicate}
-use Rattle.std.specs.Prelude.{◌==◌, cond, filter}
+use Rattle.std.specs.Prelude.{◌==◌, cond, filter, Option, None, Some}
 use Rattle.std.proofs.lemmas.Bool.{cases_eq, eq-eqb, eqb-true}
 use Rattle.std.proofs.lemmas.List.{get_or-replicate, get_or-set_other, get_or-set_same, length-replicate, length-set}
 use Rattle.std.proofs.lemmas.List.Elements.{filter-append}
 use Rattle.std.specs.List.{range_with_len}
 use Rattle.hl_meaning.specs.Trees.{Stmt, Stmts, block_stmt, break_stmt, continue_stmt, do_stmt, for_stmt, if_stmt, local_stmt, more_stmts, no_stmts, return_stmt, run_stmt, while_stmt}
-use Rattle.hl_inline.specs.Early.{declared_by, declared_in, is_in}
-use Rattle.hl_inline.specs.Marking.{counts_of, declarations, mark, mark_all, marked_numbers}
+use Rattle.hl_inline.specs.Early.{declared_by, declared_in, is_in, undeclared}
+use Rattle.hl_inline.specs.IndexedVariables.{Mention}
+use Rattle.hl_inline.specs.Marking.{Marking, counts_of, declarations, declared_variable, mark, mark_all, mark_text, marked_numbers, marking}
 use Rattle.hl_inline.proofs.BuildingLemmas.{or-assoc, or-false}
-use Rattle.hl_inline.proofs.Marks.{count-at, counts-same, length-counts, length-mark_all}
+use Rattle.hl_inline.proofs.Marks.{count-at, counts-same, length-counts, length-mark_all, text-marked}
 
 -- what statements declare, beside what is declared before
 
@@ -34,21 +35,51 @@ declared_in-beside known no_stmts n = refl
 declared_in-beside known (more_stmts first rest) n =
     omega (arith, declared_in-beside (declared_by known first) rest n, declared_in-beside (declared_by [] first) rest n, declared_by-beside known first n)
 
--- a declaration in front of others counts as one behind them
-pub declared-in_front : (size : ℕ) (known : List ℕ) (variable : ℕ) (stmts : Stmts) → counts_of size (declared_in (variable ∷ known) stmts) ≡ counts_of size (variable ∷ declared_in known stmts)
-declared-in_front size known variable stmts =
-    counts-same size (counts_of size (declared_in (variable ∷ known) stmts)) (variable ∷ declared_in known stmts) (length-counts size (declared_in (variable ∷ known) stmts))
-    (λ n small. count-at size (declared_in (variable ∷ known) stmts) n 0 small ∙ same n (n == variable) refl)
+-- what a statement declares in front of others counts as behind them
+pub declared-in_front : (size : ℕ) (known : List ℕ) (stmt : Stmt) (stmts : Stmts) → counts_of size (declared_in (declared_by known stmt) stmts) ≡ counts_of size (declared_by (declared_in known stmts) stmt)
+declared-in_front size known stmt stmts =
+    counts-same size (counts_of size (declared_in (declared_by known stmt) stmts)) (declared_by (declared_in known stmts) stmt) (length-counts size (declared_in (declared_by known stmt) stmts))
+    (λ n small. count-at size (declared_in (declared_by known stmt) stmts) n 0 small ∙ same n)
   where
-    same : (n : ℕ) (b : Bool) → (n == variable) ≡ b → declarations (declared_in (variable ∷ known) stmts) n ≡ declarations (variable ∷ declared_in known stmts) n
-    same n b is =
-        declared_in-beside (variable ∷ known) stmts n ∙ (ap (λ z. declarations (declared_in [] stmts) n + (if z then suc (declarations known n) else declarations known n)) is ∙
-        (by_test b (declared_in-beside known stmts n) ∙ ap (λ z. if z then suc (declarations (declared_in known stmts) n) else declarations (declared_in known stmts) n) (sym is)))
-      where
-        by_test : (b : Bool) → declarations (declared_in known stmts) n ≡ declarations (declared_in [] stmts) n + declarations known n
-            → declarations (declared_in [] stmts) n + (if b then suc (declarations known n) else declarations known n) ≡ (if b then suc (declarations (declared_in known stmts) n) else declarations (declared_in known stmts) n)
-        by_test true e = omega (arith, e)
-        by_test false e = sym e
+    same : (n : ℕ) → declarations (declared_in (declared_by known stmt) stmts) n ≡ declarations (declared_by (declared_in known stmts) stmt) n
+    same n = omega (arith, declared_in-beside (declared_by known stmt) stmts n, declared_in-beside known stmts n, declared_by-beside known stmt n, declared_by-beside (declared_in known stmts) stmt n)
+
+pub declares-some : (known : List ℕ) (stmt : Stmt) (variable : ℕ) → Some variable ≡ declared_variable stmt → declared_by known stmt ≡ variable ∷ known
+declares-some known (local_stmt number init) variable e = cc
+declares-some known (block_stmt body) variable e = absurd (cc)
+declares-some known (run_stmt value) variable e = absurd (cc)
+declares-some known (if_stmt cond consequent alternative) variable e = absurd (cc)
+declares-some known (for_stmt init cond step body) variable e = absurd (cc)
+declares-some known (while_stmt cond body) variable e = absurd (cc)
+declares-some known (do_stmt body cond) variable e = absurd (cc)
+declares-some known break_stmt variable e = absurd (cc)
+declares-some known continue_stmt variable e = absurd (cc)
+declares-some known (return_stmt value) variable e = absurd (cc)
+
+pub declares-none : (known : List ℕ) (stmt : Stmt) → None ≡ declared_variable stmt → declared_by known stmt ≡ known
+declares-none known (local_stmt number init) e = absurd (cc)
+declares-none known (block_stmt body) e = refl
+declares-none known (run_stmt value) e = refl
+declares-none known (if_stmt cond consequent alternative) e = refl
+declares-none known (for_stmt init cond step body) e = refl
+declares-none known (while_stmt cond body) e = refl
+declares-none known (do_stmt body cond) e = refl
+declares-none known break_stmt e = refl
+declares-none known continue_stmt e = refl
+declares-none known (return_stmt value) e = refl
+
+-- what is counted and marked
+
+pub marking-as : (end : Marking) (known : List ℕ) (marks : List Bool) → end.marks ≡ marks → end.counts ≡ counts_of (length marks) known → end ≡ marking known marks
+marking-as end known marks a b = ap (λ m. record { counts = end.counts; marks = m }) a ∙ ap (λ (l : List ℕ). record { counts = l; marks = marks }) b
+
+-- after a text
+pub text-marking : (start end : Marking) (known : List ℕ) (marks : List Bool) (text : List Mention) → start ≡ marking known marks → end.counts ≡ start.counts → end.marks ≡ mark_text start.counts text start.marks
+    → end ≡ marking known (mark_all (undeclared known text) marks)
+text-marking start end known marks text is counts reached =
+    marking-as end known (mark_all (undeclared known text) marks)
+    (reached ∙ (ap (λ s. mark_text s.counts text s.marks) is ∙ text-marked (length marks) known text marks refl))
+    (counts ∙ (ap (λ s. s.counts) is ∙ ap (λ n. counts_of n known) (sym (length-mark_all (undeclared known text) marks))))
 
 -- which marks are set
 

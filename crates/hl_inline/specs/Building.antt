@@ -4,6 +4,7 @@ use Rattle.hl_meaning.specs.declared.expression.Expr as held_expr
 use Rattle.hl_meaning.specs.declared.expression.PathPart as held_part
 use Rattle.hl_meaning.specs.declared.program.FunctionDef.{FunctionDef}
 use Rattle.hl_meaning.specs.Trees.{Expr, PathPart, Stmt, index_part}
+use Rattle.hl_meaning.specs.Programs.{Constant, Variable}
 use Rattle.hl_meaning.specs.Views.{plain_expr, plain_function, plain_part, plain_variable}
 use Rattle.hl_inline.specs.declared.context.Context.{Context}
 use Rattle.hl_inline.specs.declared.context.Jumps.{Jumps}
@@ -26,6 +27,10 @@ plain_fresh fresh = record { variables = map plain_variable fresh.variables; nam
 
 abbrev pub plain_jumps : Jumps → flattening.Jumps
 plain_jumps j = record { break_name = j.break_name; continue_name = j.continue_name }
+
+-- the variables of constants
+abbrev pub constant_variables : List Constant → List Variable
+constant_variables constants = map (λ c. c.variable) constants
 
 -- where the function stands
 abbrev pub instance_in : Context → Instance

@@ -1,8 +1,8 @@
 -- The variables that are reached early, as they are found: how often each variable is declared around a statement, and
 -- marks of those that are reached before.
-use Rattle.std.specs.Prelude.{ℕ, suc, ◌==◌, Bool, true, false, if◌then◌else◌, List, [], ◌∷◌, filter, get_or, length, map, set}
+use Rattle.std.specs.Prelude.{ℕ, suc, ◌==◌, Bool, true, false, if◌then◌else◌, List, [], ◌∷◌, filter, get_or, length, map, set, Option, None, Some}
 use Rattle.std.specs.List.{range_with_len}
-use Rattle.hl_meaning.specs.Trees.{variable_root}
+use Rattle.hl_meaning.specs.Trees.{Stmt, local_stmt, variable_root}
 use Rattle.hl_inline.specs.declared.early.Reached.{Reached}
 use Rattle.hl_inline.specs.IndexedVariables.{Mention, place_mention}
 
@@ -14,6 +14,11 @@ declarations (n ∷ declared) number = if number == n then suc (declarations dec
 -- the same of each of so many variables
 abbrev pub counts_of : (size : ℕ) → (declared : List ℕ) → List ℕ
 counts_of size declared = map (declarations declared) (range_with_len 0 size)
+
+-- the variable that a statement declares
+abbrev pub declared_variable : Stmt → Option ℕ
+declared_variable (local_stmt variable init) = Some variable
+declared_variable _ = None
 
 -- marks, with that of a variable set
 abbrev pub mark : (number : ℕ) → List Bool → List Bool

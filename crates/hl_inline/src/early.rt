@@ -5,9 +5,9 @@
 ghost use Rattle.std.specs.Prelude.{◌≡◌, ℕ, ◌^◌, ◌<◌, Bool, false, List, ◌∷◌, IfOk, OnOk, length, option_map, replicate};
 ghost use Rattle.std.specs.List.{range_with_len};
 ghost use Rattle.hl_meaning.specs.Views.{plain_expr, plain_function, plain_maybe_stmt, plain_stmt, plain_stmts};
-ghost use Rattle.hl_inline.specs.Early.{declared_in, early, early_if, early_in, early_variables, parameter_numbers, undeclared};
+ghost use Rattle.hl_inline.specs.Early.{declared_by, declared_in, early, early_if, early_in, early_variables, parameter_numbers, undeclared};
 ghost use Rattle.hl_inline.specs.IndexedVariables.{expr_mentions, expr_option_mentions};
-ghost use Rattle.hl_inline.specs.Marking.{counts_of, declarations, mark_all, marked_numbers, marking, plain_reached};
+ghost use Rattle.hl_inline.specs.Marking.{counts_of, declarations, declared_variable, mark_all, marked_numbers, marking, plain_reached};
 
 use crate::mentions::note_expr;
 use base_core::{NoMemory, Words};
@@ -94,14 +94,50 @@ fn undeclare(declared: &mut [u32], variable: u32)
     }
 }
 
+/// The variable that a statement declares, where it is a declaration.
+fn declared_variable(stmt: &Stmt) -> Option<u32>
+    ensures { result ≡ declared_variable (plain_stmt stmt.now) }
+{
+    match stmt {
+        Stmt::Local { variable, .. } => Some(*variable),
+        Stmt::Block(_) => None,
+        Stmt::Run(_) => None,
+        Stmt::If { .. } => None,
+        Stmt::For { .. } => None,
+        Stmt::While { .. } => None,
+        Stmt::Do { .. } => None,
+        Stmt::Break => None,
+        Stmt::Continue => None,
+        Stmt::Return(_) => None,
+    }
+}
+
+/// Declares what a statement declares.
+fn declare_by(declared: &mut [u32], stmt: &Stmt) -> Result<(), NoMemory>
+    ensures { (size : ℕ) → (known : List ℕ) → declared.old ≡ counts_of size known → OnOk result (declared.new ≡ counts_of size (declared_by known (plain_stmt stmt.now))) }
+{
+    match declared_variable(stmt) {
+        Some(variable) => declare(declared, variable),
+        None => Ok(()),
+    }
+}
+
+/// Ends what a statement declares.
+fn undeclare_by(declared: &mut [u32], stmt: &Stmt)
+    ensures { (size : ℕ) → (known : List ℕ) → declared.old ≡ counts_of size (declared_by known (plain_stmt stmt.now)) → declared.new ≡ counts_of size known }
+{
+    match declared_variable(stmt) {
+        Some(variable) => undeclare(declared, variable),
+        None => {}
+    }
+}
+
 /// Ends the declarations among statements.
 fn undeclare_all(reached: &mut Reached, stmts: &Stmts)
     ensures { (known : List ℕ) → (marks : List Bool) → plain_reached reached.old ≡ marking (declared_in known (plain_stmts stmts.now)) marks → plain_reached reached.new ≡ marking known marks }
 {
     for stmt in stmts.as_slice() {
-        if let Stmt::Local { variable, .. } = stmt {
-            undeclare(reached.declared.as_mut_slice(), *variable);
-        }
+        undeclare_by(reached.declared.as_mut_slice(), stmt);
     }
 }
 
@@ -122,9 +158,7 @@ fn reach_each(reached: &mut Reached, stmts: &Stmts) -> Result<(), NoMemory>
 {
     for stmt in stmts.as_slice() {
         reach(reached, stmt)?;
-        if let Stmt::Local { variable, .. } = stmt {
-            declare(reached.declared.as_mut_slice(), *variable)?;
-        }
+        declare_by(reached.declared.as_mut_slice(), stmt)?;
     }
     Ok(())
 }

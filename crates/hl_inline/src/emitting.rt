@@ -8,30 +8,24 @@ ghost use Rattle.hl_meaning.specs.Trees.{an_expr, atomic_form, binary_form, choo
 ghost use Rattle.hl_meaning.specs.Types.{Ty};
 ghost use Rattle.hl_meaning.specs.Views.{exprs_of, plain_expr, plain_exprs, plain_form, plain_location, plain_maybe_expr, plain_maybe_location, plain_target, plain_ty};
 ghost use Rattle.hl_inline.specs.Building.{behind, callees_in, instance_in, made, made_behind, operand_behind, plain_code, plain_fresh, valued};
-ghost use Rattle.hl_inline.specs.Flattening.{emit_all, emitted, expr_if_emitters, exprs_emitters, form_emitter, saved, settled};
+ghost use Rattle.hl_inline.specs.Flattening.{emit_all, emitted, expr_if_emitters, exprs_emitters, form_emitter, settled};
 ghost use Rattle.hl_inline.specs.Operands.{filled_expr_if};
 
 use crate::calling::emit_call;
 use crate::context::{Context, either};
-use crate::copies::{copied_parts, reading};
-use crate::flat::{FlatStmt, FlatStmts};
+use crate::copies::copied_parts;
+use crate::flat::FlatStmts;
 use crate::fresh::Fresh;
 use crate::holding::{expr_if_holds_call, holds_call, last_call, place_if_holds_call};
 use crate::places::{emit_place, emit_place_if, emit_target};
+use crate::settling::{Emitted, settle};
 use base_core::NoMemory;
 use hl_meaning::{Expr, Exprs, Form, HlType, Location, Target};
 use lane_core::AtomicKind;
 use sqlite_items::Boxed;
 use std::alloc::Global;
 
-/// What becomes of an expression. Where it is fixed, statements behind leave its value alone.
-#[derive(Debug, Drop)]
-pub(crate) struct Emitted {
-    pub value: Expr,
-    pub fixed: bool,
-}
-
-/// The same without its type and its token.
+/// What becomes of the form of an expression. Where it is fixed, statements behind leave its value alone.
 #[derive(Debug, Drop)]
 pub(crate) struct Formed {
     pub form: Form,
@@ -194,42 +188,6 @@ pub(crate) fn emit_boxed(
     let value = emit_operand(context, further, expr, fresh, code)?;
     let value = Boxed::new(context.alloc, value)?;
     Ok(value)
-}
-
-/// A value that stays as it is while the statements behind it run, where there are any.
-fn settle(
-    alloc: Global,
-    further: bool,
-    emitted: Emitted,
-    fresh: &mut Fresh,
-    code: &mut FlatStmts,
-) -> Result<Expr, NoMemory>
-    ensures { IfOk result (λ value. operand_behind [] (settled further (valued (plain_code code.old) (plain_expr emitted.value) emitted.fixed (plain_fresh fresh.old))) ≡ made (plain_code code.new) (plain_expr value) (plain_fresh fresh.new)) }
-{
-    if further && !emitted.fixed {
-        return save(alloc, emitted.value, fresh, code);
-    }
-    Ok(emitted.value)
-}
-
-/// Puts a value into a variable, and gives what reads that.
-fn save(
-    alloc: Global,
-    value: Expr,
-    fresh: &mut Fresh,
-    code: &mut FlatStmts,
-) -> Result<Expr, NoMemory>
-    ensures { IfOk result (λ read. operand_behind [] (saved (valued (plain_code code.old) (plain_expr value) false (plain_fresh fresh.old))) ≡ made (plain_code code.new) (plain_expr read) (plain_fresh fresh.new)) }
-{
-    let number = fresh.next();
-    let at = value.at;
-    let read = reading(alloc, &value.ty, at, number)?;
-    fresh.add_unnamed(alloc, &value.ty, at)?;
-    code.push(FlatStmt::Local {
-        variable: number,
-        init: Some(value),
-    })?;
-    Ok(read)
 }
 
 /// Operands in order.

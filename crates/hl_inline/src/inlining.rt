@@ -2,12 +2,13 @@
 
 use crate::calling::lay_named;
 use crate::constants::set_constants;
-use crate::context::{Context, shifted};
-use crate::flat::{Flat, FlatStmt, FlatStmts};
-use crate::fresh::{Fresh, copied_variable};
+use crate::context::Context;
+use crate::entry::{entry_fresh, set_inputs};
+use crate::flat::{Flat, FlatStmts};
+use crate::fresh::Fresh;
 use crate::parts::{copied_resources, copied_structs, copied_variables};
 use base_core::NoMemory;
-use hl_meaning::{Constant, FunctionDef, Parameter, Program, Variables};
+use hl_meaning::{FunctionDef, Program};
 use std::alloc::Global;
 
 /// The program without calls. Each call is replaced by the body of its function, with variables and names of its own.
@@ -34,25 +35,6 @@ pub fn inline(alloc: Global, program: &Program) -> Result<Flat, NoMemory> {
         threads: program.threads,
         body,
     })
-}
-
-/// The variables of the constants and of the entry, whose name is 0.
-fn entry_fresh(
-    alloc: Global,
-    constants: &[Constant],
-    entry: &FunctionDef,
-) -> Result<Fresh, NoMemory> {
-    let mut variables = Variables::new(alloc);
-    for constant in constants {
-        let copy = copied_variable(alloc, &constant.variable)?;
-        variables.push(copy)?;
-    }
-    let mut fresh = Fresh {
-        variables,
-        names: 1,
-    };
-    fresh.add_copies(alloc, entry.variables.as_slice())?;
-    Ok(fresh)
 }
 
 /// What sets the constants and the inputs, and the body of the entry.
@@ -82,15 +64,4 @@ fn entry_code(
     set_inputs(first, entry.parameters.as_slice(), &mut code)?;
     lay_named(&context, entry, fresh, &mut code)?;
     Ok(code)
-}
-
-/// Sets the parameters of the entry to their semantics.
-fn set_inputs(first: u32, parameters: &[Parameter], code: &mut FlatStmts) -> Result<(), NoMemory> {
-    for parameter in parameters {
-        if let Some(semantic) = parameter.semantic {
-            let variable = shifted(first, parameter.variable)?;
-            code.push(FlatStmt::Input { variable, semantic })?;
-        }
-    }
-    Ok(())
 }

@@ -8,6 +8,7 @@ mod context;
 mod copies;
 mod early;
 mod emitting;
+mod entry;
 mod flat;
 mod fresh;
 mod holding;
@@ -17,6 +18,7 @@ mod made;
 mod mentions;
 mod parts;
 mod places;
+mod settling;
 #[cfg(test)]
 mod tests;
 

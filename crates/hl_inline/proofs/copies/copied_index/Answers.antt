@@ -1,7 +1,7 @@
 use Rattle.std.proofs.Common.{◌∙◌, ap, sym}
 use Rattle.hl_meaning.specs.Views.{plain_expr}
 use Rattle.hl_meaning.proofs.Plain.{plain_expr-is}
-use Rattle.hl_inline.proofs.Copies.{expr-as}
+use Rattle.hl_inline.proofs.GivenForms.{expr-as}
 use Rattle.hl_inline.proofs.copies.copied_index.Goals as goal
 
 pub returns : goal.returns

@@ -1,6 +1,6 @@
 use Rattle.std.proofs.Common.{◌∙◌, sym}
 use Rattle.hl_meaning.proofs.Plain.{plain_location-is}
-use Rattle.hl_inline.proofs.Copies.{location-as}
+use Rattle.hl_inline.proofs.GivenForms.{location-as}
 use Rattle.hl_inline.proofs.copies.copied_place.Goals as goal
 
 pub returns : goal.returns

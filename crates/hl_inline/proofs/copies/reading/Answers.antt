@@ -1,4 +1,4 @@
-use Rattle.hl_inline.proofs.Copies.{expr-as}
+use Rattle.hl_inline.proofs.GivenForms.{expr-as}
 use Rattle.hl_inline.proofs.copies.reading.Goals as goal
 
 pub returns : goal.returns

@@ -1,7 +1,7 @@
 use Rattle.std.proofs.Common.{◌∙◌, ap, refl}
 use Rattle.hl_meaning.specs.Trees.{read_form}
 use Rattle.hl_meaning.proofs.Plain.{plain_form-Read}
-use Rattle.hl_inline.proofs.Copies.{location-whole}
+use Rattle.hl_inline.proofs.GivenForms.{location-whole}
 use Rattle.hl_inline.proofs.copies.reading_form.Goals as goal
 
 pub returns : goal.returns

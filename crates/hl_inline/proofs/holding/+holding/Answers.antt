@@ -4,7 +4,7 @@ use Rattle.hl_meaning.specs.Views.{plain_expr, plain_form, plain_location, plain
 use Rattle.hl_meaning.proofs.Plain.{plain_form-Atomic, plain_form-Binary, plain_form-Build, plain_form-Call, plain_form-Choose, plain_form-Convert, plain_form-Intrinsic, plain_form-Literal, plain_form-Method, plain_form-Pick, plain_form-Read, plain_form-Unary, plain_form-Write, plain_location-is, plain_part-Index, plain_root-Element, plain_target-Bytes, plain_target-Place}
 use Rattle.hl_inline.specs.Building.{expr_calls, last_true, part_calls}
 use Rattle.hl_inline.specs.Flattening.{any_calls, emitter, expr_if_emitters, part_emitters, parts_emitters, place_emitters, place_if_emitters, root_emitters, target_emitters}
-use Rattle.hl_inline.proofs.Copies.{part-other, root-no_element}
+use Rattle.hl_inline.proofs.GivenForms.{part-other, root-no_element}
 use Rattle.hl_inline.proofs.Held.{both, calls-as, exprs-last, last-next, one, parts-last}
 use Rattle.hl_inline.proofs.holding.+holding.Goals as goal
 

@@ -1,0 +1,88 @@
+-- Variables and statements that are added one after another.
+use Rattle.std.proofs.Common.{◌≡◌, ◌∙◌, refl, ap, sym, ℕ, suc, ◌+◌, ◌<◌, ◌≤◌, List, [], ◌∷◌, ◌++◌, Option, None, Some, append-nil, append_assoc, drop, get_or, length, map, take}
+use Rattle.std.proofs.lemmas.List.{drop_all, map-append, take_all}
+use Rattle.hl_meaning.specs.declared.program.Parameter.{Parameter}
+use Rattle.hl_meaning.specs.declared.program.Semantic.{Semantic}
+use Rattle.hl_meaning.specs.declared.program.Variable as held
+use Rattle.hl_meaning.specs.declared.ty.Kind.{Kind}
+use Rattle.hl_meaning.specs.Programs.{Constant, StructDef, Variable}
+use Rattle.hl_meaning.specs.Trees.{Expr, an_expr, literal_form}
+use Rattle.hl_meaning.specs.Types.{scalar_type}
+use Rattle.hl_meaning.specs.Views.{plain_variable}
+use Rattle.hl_inline.specs.declared.fresh.Fresh.{Fresh}
+use Rattle.hl_inline.specs.Building.{plain_fresh}
+use Rattle.hl_inline.specs.FlatTrees.{FlatStmt}
+use Rattle.hl_inline.specs.Flattening as flattening
+use Rattle.hl_inline.specs.Flattening.{literals, set_constants, set_inputs, with_variables}
+use Rattle.hl_inline.proofs.Gathering.{drop-next, take-next}
+
+-- variables
+
+pub fresh-as : (fresh : Fresh) (variables : List Variable) (names : ℕ) → map plain_variable fresh.variables ≡ variables → fresh.names ≡ names
+    → plain_fresh fresh ≡ record { variables = variables; names = names }
+fresh-as fresh variables names a b =
+    ap (λ (v : List Variable). record { variables = v; names = fresh.names }) a ∙ ap (λ (n : ℕ). record { variables = variables; names = n }) b
+
+-- one more variable
+pub fresh-more : (now end : Fresh) (variable : held.Variable) (v : Variable) → end.variables ≡ now.variables ++ variable ∷ [] → end.names ≡ now.names → plain_variable variable ≡ v
+    → plain_fresh end ≡ with_variables (v ∷ []) (plain_fresh now)
+fresh-more now end variable v grown names is =
+    fresh-as end (map plain_variable now.variables ++ v ∷ []) now.names
+    (ap (map plain_variable) grown ∙ (map-append plain_variable now.variables (variable ∷ []) ∙ ap (λ w. map plain_variable now.variables ++ w ∷ []) is)) names
+
+-- variables one behind the other
+pub variables-then : (first second : List Variable) (fresh : flattening.Fresh) → with_variables second (with_variables first fresh) ≡ with_variables (first ++ second) fresh
+variables-then first second fresh = ap (λ (v : List Variable). record { variables = v; names = fresh.names }) (append_assoc fresh.variables first second)
+
+-- one more copy
+pub copies-next : (start now end : Fresh) (xs : List held.Variable) (i : ℕ) (x copy : held.Variable) → i < length xs → x ≡ get_or xs i x
+    → plain_fresh now ≡ with_variables (map plain_variable (take i xs)) (plain_fresh start) → plain_variable copy ≡ plain_variable x
+    → end.variables ≡ now.variables ++ copy ∷ [] → end.names ≡ now.names → plain_fresh end ≡ with_variables (map plain_variable (take (i + 1) xs)) (plain_fresh start)
+copies-next start now end xs i x copy within is e same grown names =
+    fresh-more now end copy (plain_variable x) grown names same ∙ (ap (with_variables (plain_variable x ∷ [])) e ∙
+    (variables-then (map plain_variable (take i xs)) (plain_variable x ∷ []) (plain_fresh start) ∙ ap (λ l. with_variables l (plain_fresh start)) (sym (take-next plain_variable xs i x within is))))
+
+pub no-copies : (fresh : Fresh) → plain_fresh fresh ≡ with_variables [] (plain_fresh fresh)
+no-copies fresh = ap (λ (v : List Variable). record { variables = v; names = fresh.names }) (sym (append-nil (map plain_variable fresh.variables)))
+
+pub copies-end : (start now : Fresh) (xs : List held.Variable) (i : ℕ) → length xs ≤ i → plain_fresh now ≡ with_variables (map plain_variable (take i xs)) (plain_fresh start)
+    → plain_fresh now ≡ with_variables (map plain_variable xs) (plain_fresh start)
+copies-end start now xs i past e = e ∙ ap (λ l. with_variables (map plain_variable l) (plain_fresh start)) (take_all i xs past)
+
+-- statements that a list gives, one after another
+
+module _ {A B : Type 0} (f : List A → List B) (xs : List A) where
+  pub given-next : (i : ℕ) (x : A) (own now end whole : List B) → i < length xs → x ≡ get_or xs i x → f (x ∷ drop (i + 1) xs) ≡ own ++ f (drop (i + 1) xs)
+      → end ≡ now ++ own → now ++ f (drop i xs) ≡ whole → end ++ f (drop (i + 1) xs) ≡ whole
+  given-next i x own now end whole within is parts grown e =
+      ap (λ l. l ++ f (drop (i + 1) xs)) grown ∙ (append_assoc now own (f (drop (i + 1) xs)) ∙
+      (ap (λ l. now ++ l) (sym parts) ∙ (ap (λ l. now ++ f l) (sym (drop-next xs i x within is)) ∙ e)))
+
+  pub given-end : (i : ℕ) (now whole : List B) → length xs ≤ i → f [] ≡ [] → now ++ f (drop i xs) ≡ whole → now ≡ whole
+  given-end i now whole past none e = sym (append-nil now) ∙ (ap (λ l. now ++ l) (sym (ap f (drop_all i xs past) ∙ none)) ∙ e)
+
+-- inputs
+
+pub inputs-first : (first : ℕ) (p : Parameter) (parameters : List Parameter) → set_inputs first (p ∷ parameters) ≡ set_inputs first (p ∷ []) ++ set_inputs first parameters
+inputs-first first p parameters = by_semantic p.semantic refl
+  where
+    by_semantic : (s : Option Semantic) → p.semantic ≡ s → set_inputs first (p ∷ parameters) ≡ set_inputs first (p ∷ []) ++ set_inputs first parameters
+    by_semantic None is = rw is refl
+    by_semantic (Some semantic) is = rw is refl
+
+-- literals
+
+pub literals-next : (at : ℕ) (kinds : List Kind) (words : List ℕ) (i : ℕ) (kind : Kind) (word : ℕ) → i < length kinds → kind ≡ get_or kinds i kind → i < length words → word ≡ get_or words i word
+    → literals at (drop i kinds) (drop i words) ≡ an_expr (scalar_type kind) at (literal_form word) ∷ literals at (drop (i + 1) kinds) (drop (i + 1) words)
+literals-next at kinds words i kind word a b c d =
+    ap (λ l. literals at l (drop i words)) (drop-next kinds i kind a b) ∙ ap (λ l. literals at (kind ∷ drop (i + 1) kinds) l) (drop-next words i word c d)
+
+literals-none : (at : ℕ) (kinds : List Kind) → literals at kinds [] ≡ []
+literals-none at [] = refl
+literals-none at (kind ∷ kinds) = refl
+
+pub literals-no_kind : (at : ℕ) (kinds : List Kind) (words : List ℕ) (i : ℕ) → length kinds ≤ i → literals at (drop i kinds) (drop i words) ≡ []
+literals-no_kind at kinds words i past = ap (λ l. literals at l (drop i words)) (drop_all i kinds past)
+
+pub literals-no_word : (at : ℕ) (kinds : List Kind) (words : List ℕ) (i : ℕ) → length words ≤ i → literals at (drop i kinds) (drop i words) ≡ []
+literals-no_word at kinds words i past = ap (literals at (drop i kinds)) (drop_all i words past) ∙ literals-none at (drop i kinds)

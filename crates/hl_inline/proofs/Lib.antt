@@ -1,3 +1,8 @@
+pub mod GivenEmissions
+pub mod InlinedLemmas
+pub mod Weights
+pub mod LayingLemmas
+pub mod CalleeLemmas
 pub mod FlatPlain
 pub mod BuildingLemmas
 pub mod LastLemmas

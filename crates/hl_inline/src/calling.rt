@@ -10,7 +10,7 @@ ghost use Rattle.hl_meaning.specs.Views.{plain_arg, plain_args, plain_expr, plai
 ghost use Rattle.hl_inline.specs.Building.{behind, callees_in, instance_in, laid_to, named_body, passed_behind, passed_to, plain_code, plain_fresh, valued};
 ghost use Rattle.hl_inline.specs.FlatTrees.{flat_local};
 ghost use Rattle.hl_inline.specs.FlatViews.{plain_flat_stmt};
-ghost use Rattle.hl_inline.specs.Flattening.{Inlined, arg_emitter, args_emitters, call, copy_back, inlined, inlined_at, laid_with, next_of, pass_all, start_value, with_instance};
+ghost use Rattle.hl_inline.specs.Flattening.{Argument, Inlined, Instance, arg_emitter, args_emitters, call, copy_back, inlined, inlined_at, laid_with, next_of, nothing_inlined, pass_all, result_variables, start_value, with_body, with_instance, with_variables};
 
 use crate::bodies::lay_function;
 use crate::context::{Context, shifted};
@@ -25,7 +25,7 @@ use sqlite_items::Boxed;
 use std::alloc::Global;
 
 /// A call, whose value stands in a variable of its own. A well formed program has no call of a function that isn't
-/// there.
+/// there; nothing is inside such a call.
 ///
 /// # Errors
 /// `NoMemory` where memory is refused, as in each call below.
@@ -43,7 +43,7 @@ pub(crate) fn emit_call(
 {
     let number = function as usize;
     if number >= context.functions.len() {
-        return Err(NoMemory);
+        return emit_missing(context.alloc, ty, at, fresh, code);
     }
     let callee = &context.functions[number];
     let inner = Context {
@@ -54,18 +54,55 @@ pub(crate) fn emit_call(
         exit: fresh.names,
     };
     add_instance(context.alloc, callee, ty, at, fresh)?;
+    emit_around(context, &inner, callee, ty, at, args, fresh, code)
+}
+
+/// A call of a function that isn't there.
+fn emit_missing(
+    alloc: Global,
+    ty: &HlType,
+    at: usize,
+    fresh: &mut Fresh,
+    code: &mut FlatStmts,
+) -> Result<Formed, NoMemory>
+    ensures { IfOk result (λ made. (i : Instance) → (args : List Argument) → behind (plain_code code.old) ((call i (plain_ty ty.now) at nothing_inlined args).emit (plain_fresh fresh.old)) ≡ valued (plain_code code.new) (an_expr (plain_ty ty.now) at (plain_form made.form)) made.fixed (plain_fresh fresh.new)) }
+{
+    let number = fresh.next();
+    let name = fresh.take_name()?;
+    add_result(alloc, ty, at, fresh)?;
+    let body = Boxed::new(alloc, FlatStmt::Block(FlatStmts::new(alloc)))?;
+    code.push(FlatStmt::Named { name, body })?;
+    let form = reading_form(alloc, ty, number)?;
+    Ok(Formed { form, fixed: true })
+}
+
+/// The arguments of a call, the body of the function, and what is written back.
+#[cycle(inlining)]
+fn emit_around(
+    context: &Context,
+    inner: &Context,
+    callee: &FunctionDef,
+    ty: &HlType,
+    at: usize,
+    args: &[Arg],
+    fresh: &mut Fresh,
+    code: &mut FlatStmts,
+) -> Result<Formed, NoMemory>
+    ensures { IfOk result (λ made. behind (plain_code code.old) (with_body (plain_ty ty.now) at (inlined (callees_in inner.now) (plain_function callee.now)) (instance_in inner.now) (pass_all (instance_in context.now) at inner.now.first (args_emitters (callees_in context.now) (instance_in context.now) (plain_args args.now)) callee.now.parameters (plain_fresh fresh.old))) ≡ valued (plain_code code.new) (an_expr (plain_ty ty.now) at (plain_form made.form)) made.fixed (plain_fresh fresh.new)) }
+{
     let mut copies = FlatStmts::new(context.alloc);
+    let parameters = callee.parameters.as_slice();
     pass_all(
         context,
         at,
         inner.first,
         args,
-        callee.parameters.as_slice(),
+        parameters,
         fresh,
         code,
         &mut copies,
     )?;
-    lay_named(&inner, callee, fresh, code)?;
+    lay_named(inner, callee, fresh, code)?;
     code.append(copies)?;
     let form = reading_form(context.alloc, ty, inner.result)?;
     Ok(Formed { form, fixed: true })
@@ -91,6 +128,13 @@ fn add_instance(
 {
     fresh.take_name()?;
     fresh.add_copies(alloc, callee.variables.as_slice())?;
+    add_result(alloc, ty, at, fresh)
+}
+
+/// The variable of a result, where there is one.
+fn add_result(alloc: Global, ty: &HlType, at: usize, fresh: &mut Fresh) -> Result<(), NoMemory>
+    ensures { OnOk result (plain_fresh fresh.new ≡ with_variables (result_variables (plain_ty ty.now) at) (plain_fresh fresh.old)) }
+{
     match ty {
         HlType::Void => Ok(()),
         _ => fresh.add_unnamed(alloc, ty, at),

@@ -1,6 +1,5 @@
 -- Values that stay as they are while further statements run.
 use Rattle.std.proofs.Common.{◌≡◌, ◌∙◌, refl, ap, sym, ℕ, Bool, false, true, List, [], ◌∷◌, ◌++◌, Some}
-use Rattle.std.specs.Prelude.{◌&&◌, not}
 use Rattle.hl_meaning.specs.declared.expression.Expr as held
 use Rattle.hl_meaning.specs.Trees.{Expr, type_of}
 use Rattle.hl_meaning.specs.Types.{Ty}
@@ -29,8 +28,13 @@ pub settled-saved : (further fixed : Bool) (code : List FlatStmt) (value : Expr)
 settled-saved further fixed code value fresh m a b e =
     ap (λ f. operand_behind [] (settled f (valued code value fixed fresh))) a ∙ (ap (λ f. operand_behind [] (settled true (valued code value f fresh))) b ∙ e)
 
-pub settled-kept : (further fixed : Bool) (code : List FlatStmt) (value : Expr) (fresh : Fresh) → (further && not fixed) ≡ false
+pub settled-fixed : (further fixed : Bool) (code : List FlatStmt) (value : Expr) (fresh : Fresh) → fixed ≡ true
     → operand_behind [] (settled further (valued code value fixed fresh)) ≡ made code value fresh
-settled-kept true true code value fresh e = refl
-settled-kept true false code value fresh e = absurd (cc)
-settled-kept false fixed code value fresh e = refl
+settled-fixed true true code value fresh e = refl
+settled-fixed true false code value fresh e = absurd (cc)
+settled-fixed false fixed code value fresh e = refl
+
+pub settled-last : (further fixed : Bool) (code : List FlatStmt) (value : Expr) (fresh : Fresh) → further ≡ false
+    → operand_behind [] (settled further (valued code value fixed fresh)) ≡ made code value fresh
+settled-last true fixed code value fresh e = absurd (cc)
+settled-last false fixed code value fresh e = refl

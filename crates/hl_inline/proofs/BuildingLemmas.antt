@@ -6,17 +6,10 @@ use Rattle.hl_meaning.specs.Trees.{Expr, Form, an_expr}
 use Rattle.hl_inline.specs.FlatTrees.{FlatStmt}
 use Rattle.hl_inline.specs.Operands.{filled, first_expr}
 use Rattle.hl_inline.specs.Flattening.{Emitter, Fresh, Instance, Laid, Passed, Valued, Values, any_calls, emit_all, is_literal_form, laid_then, laid_with, node, over, settled}
+use Rattle.hl_inline.proofs.Flags.{any-append, or-assoc, or-false}
 use Rattle.hl_inline.specs.Building.{Made, behind, laid_to, made, made_behind, operand_behind, valued}
 
 -- truth values
-
-pub or-false : (b : Bool) → (b || false) ≡ b
-or-false true = refl
-or-false false = refl
-
-pub or-assoc : (a b c : Bool) → ((a || b) || c) ≡ (a || (b || c))
-or-assoc true b c = refl
-or-assoc false b c = refl
 
 pub or-comm : (a b : Bool) → (a || b) ≡ (b || a)
 or-comm true true = refl
@@ -24,14 +17,10 @@ or-comm true false = refl
 or-comm false true = refl
 or-comm false false = refl
 
-pub any-append : (as bs : List Emitter) → any_calls (as ++ bs) ≡ (any_calls as || any_calls bs)
-any-append [] bs = refl
-any-append (e ∷ as) bs = ap (λ b. e.calls || b) (any-append as bs) ∙ sym (or-assoc e.calls (any_calls as) (any_calls bs))
-
 -- operands of a list in front of others
-flags_apart : (further : Bool) (as bs : List Emitter) → (further || any_calls (as ++ bs)) ≡ ((further || any_calls bs) || any_calls as)
-flags_apart further as bs =
-    ap (λ b. further || b) (any-append as bs ∙ or-comm (any_calls as) (any_calls bs)) ∙ sym (or-assoc further (any_calls bs) (any_calls as))
+flags_apart : (further : Bool) (front back : List Emitter) → (further || any_calls (front ++ back)) ≡ ((further || any_calls back) || any_calls front)
+flags_apart further front back =
+    ap (λ b. further || b) (any-append front back ∙ or-comm (any_calls front) (any_calls back)) ∙ sym (or-assoc further (any_calls back) (any_calls front))
 
 -- values
 
@@ -72,29 +61,32 @@ pub no_operand : (further : Bool) (code : List FlatStmt) (values : List Expr) (f
 no_operand further code values fresh =
     ap (λ c. values_of c (values ++ []) fresh) (append-nil code) ∙ ap (λ vs. values_of code vs fresh) (append-nil values)
 
+abbrev both_behind : (further : Bool) (front back : List Emitter) (code : List FlatStmt) (values : List Expr) → Fresh → Values
+both_behind further front back code values fresh =
+    values_behind (code ++ (emit_all (further || any_calls back) front fresh).code) (values ++ (emit_all (further || any_calls back) front fresh).values)
+        (emit_all further back (emit_all (further || any_calls back) front fresh).fresh)
+
+operand_joined : (further : Bool) (front back : List Emitter) (code : List FlatStmt) (values : List Expr) (x : Valued) →
+    both_behind further front back (code ++ x.code) (values ++ x.value ∷ []) x.fresh ≡
+    values_behind (code ++ (x.code ++ (emit_all (further || any_calls back) front x.fresh).code)) (values ++ x.value ∷ (emit_all (further || any_calls back) front x.fresh).values)
+        (emit_all further back (emit_all (further || any_calls back) front x.fresh).fresh)
+operand_joined further front back code values x =
+    ap (λ c. values_behind c ((values ++ x.value ∷ []) ++ (emit_all (further || any_calls back) front x.fresh).values)
+        (emit_all further back (emit_all (further || any_calls back) front x.fresh).fresh)) (append_assoc code x.code (emit_all (further || any_calls back) front x.fresh).code) ∙
+    ap (λ vs. values_behind (code ++ (x.code ++ (emit_all (further || any_calls back) front x.fresh).code)) vs
+        (emit_all further back (emit_all (further || any_calls back) front x.fresh).fresh)) (append_assoc values (x.value ∷ []) (emit_all (further || any_calls back) front x.fresh).values)
+
 -- operands and others behind them
-pub next_operands : (further : Bool) (as bs : List Emitter) (code : List FlatStmt) (values : List Expr) (fresh : Fresh) →
-    values_behind code values (emit_all further (as ++ bs) fresh) ≡
-    values_behind (code ++ (emit_all (further || any_calls bs) as fresh).code) (values ++ (emit_all (further || any_calls bs) as fresh).values)
-        (emit_all further bs (emit_all (further || any_calls bs) as fresh).fresh)
-next_operands further [] bs code values fresh =
-    sym (ap (λ c. values_behind c (values ++ []) (emit_all further bs fresh)) (append-nil code) ∙
-    ap (λ vs. values_behind code vs (emit_all further bs fresh)) (append-nil values))
-next_operands further (e ∷ as) bs code values fresh =
-    step further e (as ++ bs) code values fresh ∙
-    (ap (λ b. with_operand values (emit_all further (as ++ bs)) (operand_behind code (settled b (e.emit fresh)))) (flags_apart further as bs) ∙
-    joined (settled ((further || any_calls bs) || any_calls as) (e.emit fresh)))
-  where
-    joined : (x : Valued) →
-        with_operand values (emit_all further (as ++ bs)) (operand_behind code x) ≡
-        values_behind (code ++ (x.code ++ (emit_all (further || any_calls bs) as x.fresh).code)) (values ++ x.value ∷ (emit_all (further || any_calls bs) as x.fresh).values)
-            (emit_all further bs (emit_all (further || any_calls bs) as x.fresh).fresh)
-    joined x =
-        next_operands further as bs (code ++ x.code) (values ++ x.value ∷ []) x.fresh ∙
-        (ap (λ c. values_behind c ((values ++ x.value ∷ []) ++ (emit_all (further || any_calls bs) as x.fresh).values)
-            (emit_all further bs (emit_all (further || any_calls bs) as x.fresh).fresh)) (append_assoc code x.code (emit_all (further || any_calls bs) as x.fresh).code) ∙
-        ap (λ vs. values_behind (code ++ (x.code ++ (emit_all (further || any_calls bs) as x.fresh).code)) vs
-            (emit_all further bs (emit_all (further || any_calls bs) as x.fresh).fresh)) (append_assoc values (x.value ∷ []) (emit_all (further || any_calls bs) as x.fresh).values))
+pub next_operands : (further : Bool) (front back : List Emitter) (code : List FlatStmt) (values : List Expr) (fresh : Fresh) →
+    values_behind code values (emit_all further (front ++ back) fresh) ≡ both_behind further front back code values fresh
+next_operands further [] back code values fresh =
+    sym (ap (λ c. values_behind c (values ++ []) (emit_all further back fresh)) (append-nil code) ∙
+    ap (λ vs. values_behind code vs (emit_all further back fresh)) (append-nil values))
+next_operands further (e ∷ front) back code values fresh =
+    let x = settled ((further || any_calls back) || any_calls front) (e.emit fresh) in
+    step further e (front ++ back) code values fresh ∙
+    (ap (λ b. with_operand values (emit_all further (front ++ back)) (operand_behind code (settled b (e.emit fresh)))) (flags_apart further front back) ∙
+    (next_operands further front back (code ++ x.code) (values ++ x.value ∷ []) x.fresh ∙ operand_joined further front back code values x))
 
 -- as many values as operands
 pub values_count : (further : Bool) (es : List Emitter) (fresh : Fresh) → length (emit_all further es fresh).values ≡ length es
@@ -119,21 +111,21 @@ pub none : {A : Type 0} (further : Bool) (fill : List Expr → A) (code : List F
 none further fill code fresh = ap (λ c. made c (fill []) fresh) (append-nil code)
 
 -- what is made of the values of two lists
-pub pair : {A B C : Type 0} (fa : List Expr → A) (fb : List Expr → B) (g : A → B → C) (fc : List Expr → C) (further f : Bool) (as bs : List Emitter)
+pub pair : {A B C : Type 0} (fa : List Expr → A) (fb : List Expr → B) (g : A → B → C) (fc : List Expr → C) (further f : Bool) (front back : List Emitter)
     (code : List FlatStmt) (fresh : Fresh) (a : Made A) (b : Made B) →
-    ((xs ys : List Expr) → length xs ≡ length as → fc (xs ++ ys) ≡ g (fa xs) (fb ys)) → f ≡ (further || any_calls bs) →
-    made_behind code fa (emit_all f as fresh) ≡ a → made_behind a.code fb (emit_all further bs a.fresh) ≡ b →
-    made_behind code fc (emit_all further (as ++ bs) fresh) ≡ made b.code (g a.value b.value) b.fresh
-pair fa fb g fc further f as bs code fresh a b fills is first second =
-    ap (λ v. made v.code (fc v.values) v.fresh) (next_operands further as bs code [] fresh) ∙
-    (ap (λ value. made ((code ++ x.code) ++ (emit_all further bs x.fresh).code) value (emit_all further bs x.fresh).fresh)
-        (fills x.values (emit_all further bs x.fresh).values (values_count (further || any_calls bs) as fresh)) ∙
-    (ap (λ m. map_made (g m.value) (made_behind m.code fb (emit_all further bs m.fresh)))
-        (ap (λ b. made_behind code fa (emit_all b as fresh)) (sym is) ∙ first) ∙
+    ((xs ys : List Expr) → length xs ≡ length front → fc (xs ++ ys) ≡ g (fa xs) (fb ys)) → f ≡ (further || any_calls back) →
+    made_behind code fa (emit_all f front fresh) ≡ a → made_behind a.code fb (emit_all further back a.fresh) ≡ b →
+    made_behind code fc (emit_all further (front ++ back) fresh) ≡ made b.code (g a.value b.value) b.fresh
+pair fa fb g fc further f front back code fresh a b fills is first second =
+    ap (λ v. made v.code (fc v.values) v.fresh) (next_operands further front back code [] fresh) ∙
+    (ap (λ value. made ((code ++ x.code) ++ (emit_all further back x.fresh).code) value (emit_all further back x.fresh).fresh)
+        (fills x.values (emit_all further back x.fresh).values (values_count (further || any_calls back) front fresh)) ∙
+    (ap (λ m. map_made (g m.value) (made_behind m.code fb (emit_all further back m.fresh)))
+        (ap (λ b. made_behind code fa (emit_all b front fresh)) (sym is) ∙ first) ∙
     ap (map_made (g a.value)) second))
   where
     x : Values
-    x = emit_all (further || any_calls bs) as fresh
+    x = emit_all (further || any_calls back) front fresh
 
 -- a node of what is made of its operands
 pub node_done : (i : Instance) (ty : Ty) (at : ℕ) (form : Form) (ops : List Emitter) (code : List FlatStmt) (fresh : Fresh) (m : Made Form) →

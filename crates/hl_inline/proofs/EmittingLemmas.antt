@@ -10,7 +10,8 @@ use Rattle.hl_inline.specs.Operands.{behind_expr_if, behind_target, expr_if_list
 use Rattle.hl_inline.specs.Flattening.{Emitter, Fresh, Inlined, Instance, any_calls, emit_all, emitted, emitter, expr_if_emitters, exprs_emitters, form_emitter, part_emitters, parts_emitters, place_emitters, place_if_emitters, root_emitters, settled, target_emitters}
 use Rattle.hl_inline.specs.Building.{Made, behind, filled_part, made, made_behind, operand_behind, valued}
 use Rattle.hl_inline.proofs.OperandLemmas.{place_emitters_all}
-use Rattle.hl_inline.proofs.BuildingLemmas.{any-append, map_made, node_done, none, one, or-false, pair}
+use Rattle.hl_inline.proofs.BuildingLemmas.{map_made, node_done, none, one, pair}
+use Rattle.hl_inline.proofs.Flags.{any-append, or-false}
 
 -- values in front of others
 

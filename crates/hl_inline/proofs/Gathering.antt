@@ -30,3 +30,7 @@ pub repeated-next : (count : ℕ) (kinds : List Kind) → repeated count kinds +
 repeated-next zero kinds = sym (append-nil kinds)
 repeated-next (suc count) kinds =
     append_assoc kinds (repeated count kinds) kinds ∙ (ap (λ l. kinds ++ l) (repeated-next count kinds) ∙ ap (λ k. repeated k kinds) (sym (suc-add count 1)))
+
+-- one more of what is mapped
+pub mapped-more : {A B : Type 0} (f : A → B) (xs grown : List A) (x : A) (y : B) → grown ≡ xs ++ x ∷ [] → f x ≡ y → map f grown ≡ map f xs ++ y ∷ []
+mapped-more f xs grown x y e is = ap (map f) e ∙ (map-append f xs (x ∷ []) ∙ ap (λ z. map f xs ++ z ∷ []) is)

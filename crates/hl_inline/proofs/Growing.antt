@@ -5,15 +5,15 @@ use Rattle.hl_meaning.specs.declared.program.Parameter.{Parameter}
 use Rattle.hl_meaning.specs.declared.program.Semantic.{Semantic}
 use Rattle.hl_meaning.specs.declared.program.Variable as held
 use Rattle.hl_meaning.specs.declared.ty.Kind.{Kind}
-use Rattle.hl_meaning.specs.Programs.{Constant, StructDef, Variable}
-use Rattle.hl_meaning.specs.Trees.{Expr, an_expr, literal_form}
+use Rattle.hl_meaning.specs.Programs.{Variable}
+use Rattle.hl_meaning.specs.Trees.{an_expr, literal_form}
 use Rattle.hl_meaning.specs.Types.{scalar_type}
 use Rattle.hl_meaning.specs.Views.{plain_variable}
 use Rattle.hl_inline.specs.declared.fresh.Fresh.{Fresh}
 use Rattle.hl_inline.specs.Building.{plain_fresh}
-use Rattle.hl_inline.specs.FlatTrees.{FlatStmt}
+use Rattle.hl_inline.specs.FlatTrees.{flat_input}
 use Rattle.hl_inline.specs.Flattening as flattening
-use Rattle.hl_inline.specs.Flattening.{literals, set_constants, set_inputs, with_variables}
+use Rattle.hl_inline.specs.Flattening.{literals, set_inputs, with_variables}
 use Rattle.hl_inline.proofs.Gathering.{drop-next, take-next}
 
 -- variables
@@ -69,6 +69,12 @@ inputs-first first p parameters = by_semantic p.semantic refl
     by_semantic : (s : Option Semantic) → p.semantic ≡ s → set_inputs first (p ∷ parameters) ≡ set_inputs first (p ∷ []) ++ set_inputs first parameters
     by_semantic None is = rw is refl
     by_semantic (Some semantic) is = rw is refl
+
+pub inputs-some : (first : ℕ) (p : Parameter) (semantic : Semantic) → p.semantic ≡ Some semantic → set_inputs first (p ∷ []) ≡ flat_input (first + p.variable) semantic ∷ []
+inputs-some first p semantic is = rw is refl
+
+pub inputs-none : (first : ℕ) (p : Parameter) → p.semantic ≡ None → set_inputs first (p ∷ []) ≡ []
+inputs-none first p is = rw is refl
 
 -- literals
 

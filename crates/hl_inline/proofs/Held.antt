@@ -8,7 +8,7 @@ use Rattle.hl_meaning.specs.Trees as plain
 use Rattle.hl_meaning.specs.Views.{plain_expr, plain_exprs, plain_form, plain_part, plain_parts, plain_ty}
 use Rattle.hl_inline.specs.Building.{expr_calls, last_true, part_calls}
 use Rattle.hl_inline.specs.Flattening.{Emitter, Inlined, Instance, any_calls, emitter, exprs_emitters, form_emitter, part_emitters, parts_emitters}
-use Rattle.hl_inline.proofs.BuildingLemmas.{any-append, or-false}
+use Rattle.hl_inline.proofs.Flags.{any-append, or-false}
 use Rattle.hl_inline.proofs.GivenForms.{expr-as}
 use Rattle.hl_inline.proofs.Gathering.{take-next}
 use Rattle.hl_inline.proofs.LastLemmas.{any_behind, any_true, last_more, with_last}

@@ -1,3 +1,5 @@
+pub mod GivenEmissions
+pub mod InlinedLemmas
 pub mod Weights
 pub mod LayingLemmas
 pub mod CalleeLemmas
@@ -24,9 +26,11 @@ pub mod Covered
 pub mod Expressions
 pub mod KindParts
 pub mod Gathering
+pub mod Flags
 pub mod GivenForms
 pub mod Held
 pub mod Marks
 pub mod Reaches
 pub mod OneStatement
 pub mod Growing
+pub mod Settled

@@ -1,6 +1,7 @@
 -- Marks of the variables that are reached early.
 use Rattle.std.proofs.Common.{◌≡◌, ◌≢◌, ◌∙◌, refl, ap, sym, ℕ, suc, ◌+◌, ◌-◌, ◌<◌, ◌≤◌, ◌⊎◌, inl, inr, ◌||◌, Bool, false, true, if◌then◌else◌, List, [], ◌∷◌, ◌++◌, add-one, append-nil, append_assoc, arith, drop, get_or, length, map, set}
 use Rattle.std.specs.Prelude.{◌==◌, cond, not}
+use Rattle.std.proofs.Math.Dec.{eqb-suc-zero}
 use Rattle.std.proofs.lemmas.Bool.{cases_eq, cases_lt, eq-eqb, eqb-true}
 use Rattle.std.proofs.lemmas.Grind.{same_number_lists}
 use Rattle.std.proofs.lemmas.List.{drop_all, get_or-set_other, get_or-set_same, get_or_past, length-set, set_past}
@@ -55,7 +56,7 @@ or-at (n ∷ known) number = by_test (number == n) (or-at known number)
   where
     by_test : (b : Bool) → (declarations known number == 0) ≡ not (is_in known number)
         → ((if b then suc (declarations known number) else declarations known number) == 0) ≡ not (b || is_in known number)
-    by_test true e = refl
+    by_test true e = eqb-suc-zero (declarations known number)
     by_test false e = e
 
 count-at : (size : ℕ) (known : List ℕ) (number d : ℕ) → number < size → get_or (counts_of size known) number d ≡ declarations known number
@@ -141,6 +142,9 @@ declared-fewer size counts known number is within =
     let long : length counts ≡ size = ap length is ∙ length-counts size (number ∷ known) in
     counts-same size (set counts number (get_or counts number 0 - 1)) known (length-set counts number _ ∙ long) (λ n small. by_place n small (cases_eq n number))
   where
+    minus-one : (n : ℕ) → suc n - 1 ≡ n
+    minus-one n = omega arith
+
     at : (n : ℕ) → n < size → get_or counts n 0 ≡ declarations (number ∷ known) n
     at n small = ap (λ l. get_or l n 0) is ∙ count-at size (number ∷ known) n 0 small
 
@@ -149,7 +153,7 @@ declared-fewer size counts known number is within =
         ap (λ m. get_or (set counts number (get_or counts number 0 - 1)) m 0) same ∙
         (get_or-set_same counts number (get_or counts number 0 - 1) 0 within ∙
         (ap (λ m. m - 1) (ap (λ m. get_or counts m 0) (sym same) ∙ (at n small ∙ (ap (declarations (number ∷ known)) same ∙ declared-same number known))) ∙
-        ap (declarations known) (sym same)))
+        (minus-one (declarations known number) ∙ ap (declarations known) (sym same))))
     by_place n small (inr other) =
         get_or-set_other counts number n (get_or counts number 0 - 1) 0 other ∙ (at n small ∙ declared-one number n known other)
 

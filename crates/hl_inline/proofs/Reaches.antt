@@ -9,7 +9,7 @@ use Rattle.hl_meaning.specs.Trees.{Stmt, Stmts, block_stmt, break_stmt, continue
 use Rattle.hl_inline.specs.Early.{declared_by, declared_in, is_in, undeclared}
 use Rattle.hl_inline.specs.IndexedVariables.{Mention}
 use Rattle.hl_inline.specs.Marking.{Marking, counts_of, declarations, declared_variable, mark, mark_all, mark_text, marked_numbers, marking}
-use Rattle.hl_inline.proofs.BuildingLemmas.{or-assoc, or-false}
+use Rattle.hl_inline.proofs.Flags.{or-assoc, or-false}
 use Rattle.hl_inline.proofs.Marks.{count-at, counts-same, length-counts, length-mark_all, text-marked}
 
 -- what statements declare, beside what is declared before

@@ -10,7 +10,8 @@ use Rattle.hl_inline.specs.FlatTrees.{FlatStmt}
 use Rattle.hl_inline.specs.Operands.{filled_parts}
 use Rattle.hl_inline.specs.Flattening.{Emitter, Fresh, Inlined, Instance, any_calls, emit_all, emitted, emitter, exprs_emitters, part_emitters, parts_emitters, settled}
 use Rattle.hl_inline.specs.Building.{Made, expr_calls, filled_part, last_true, made, made_behind, operand_behind, part_calls}
-use Rattle.hl_inline.proofs.BuildingLemmas.{any-append, map_made, next_operand, no_operand, none, values_behind, values_of, with_operand}
+use Rattle.hl_inline.proofs.BuildingLemmas.{map_made, next_operand, no_operand, none, values_behind, values_of, with_operand}
+use Rattle.hl_inline.proofs.Flags.{any-append}
 use Rattle.hl_inline.proofs.LastLemmas.{any_behind, any_true}
 use Rattle.hl_inline.proofs.EmittingLemmas.{parts_done}
 

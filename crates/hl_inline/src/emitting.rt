@@ -45,15 +45,16 @@ pub(crate) fn emit(
 ) -> Result<Emitted, NoMemory>
     ensures { IfOk result (λ e. behind (plain_code code.old) (emitted (callees_in context.now) (instance_in context.now) (plain_expr expr.now) (plain_fresh fresh.old)) ≡ valued (plain_code code.new) (plain_expr e.value) e.fixed (plain_fresh fresh.new)) }
 {
-    let formed = emit_form(context, &expr.ty, expr.at, &expr.form, fresh, code)?;
     let ty = expr.ty.copied(context.alloc)?;
+    let formed = emit_form(context, &expr.ty, expr.at, &expr.form, fresh, code)?;
+    let Formed { form, fixed } = formed;
     Ok(Emitted {
         value: Expr {
             ty,
             at: expr.at,
-            form: formed.form,
+            form,
         },
-        fixed: formed.fixed,
+        fixed,
     })
 }
 

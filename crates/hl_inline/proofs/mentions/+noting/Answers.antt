@@ -134,19 +134,19 @@ note_root-returns-in-Element t c = λ parts.
     (c.note_expr.ensures ∙ ap (λ e. mark_text k (expr_mentions (plain_expr e)) c.args.early.now) c.get.ensures) ∙
     sym (ap (λ r. mark_text k (place_mention r parts ∷ root_mentions r) c.args.early.now) (ap plain_root c.in-Element.is ∙ plain_root-Element _ _))
 
-pub note_root-returns-in-Constant : goal.note_root-returns-in-Constant
-note_root-returns-in-Constant t c = λ parts.
+pub note_root-returns : goal.note_root-returns
+note_root-returns t c = λ parts.
     root-other (λ r. mark_text c.args.declared.now (place_mention r parts ∷ root_mentions r) c.args.early.now) c.args.early.now c.args.root.now c.in-Constant.is (λ x. refl) (λ x. refl)
 
-pub note_part-returns-in-Member : goal.note_part-returns-in-Member
-note_part-returns-in-Member t c = part-other (λ p. mark_text c.args.declared.now (part_mentions p) c.args.early.now) c.args.early.now c.args.part.now c.in-Member.is (λ x. refl) (λ x. refl)
+pub note_part-returns : goal.note_part-returns
+note_part-returns t c = part-other (λ p. mark_text c.args.declared.now (part_mentions p) c.args.early.now) c.args.early.now c.args.part.now c.in-Member.is (λ x. refl) (λ x. refl)
 
-pub note_root-returns-in-Constant-2 : goal.note_root-returns-in-Constant-2
-note_root-returns-in-Constant-2 t c = λ parts.
+pub note_root-returns-2 : goal.note_root-returns-2
+note_root-returns-2 t c = λ parts.
     root-other (λ r. mark_text c.args.declared.now (place_mention r parts ∷ root_mentions r) c.args.early.now) c.args.early.now c.args.root.now c.in-Constant.is (λ x. refl) (λ x. refl)
 
-pub note_part-returns-in-Member-2 : goal.note_part-returns-in-Member-2
-note_part-returns-in-Member-2 t c = part-other (λ p. mark_text c.args.declared.now (part_mentions p) c.args.early.now) c.args.early.now c.args.part.now c.in-Member.is (λ x. refl) (λ x. refl)
+pub note_part-returns-2 : goal.note_part-returns-2
+note_part-returns-2 t c = part-other (λ p. mark_text c.args.declared.now (part_mentions p) c.args.early.now) c.args.early.now c.args.part.now c.in-Member.is (λ x. refl) (λ x. refl)
 
 pub note_exprs-loop-expr-init : goal.note_exprs-loop-expr-init
 note_exprs-loop-expr-init t c = refl

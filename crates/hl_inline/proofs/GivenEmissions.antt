@@ -1,0 +1,39 @@
+-- What functions that emit promise, of other equal parts.
+use Rattle.std.proofs.Common.{◌≡◌, ◌∙◌, refl, sym, ap, subst, ℕ, Bool, false, List, [], ◌∷◌, ◌++◌, map, Option, Ok, Err}
+use Rattle.std.specs.Prelude.{Result, IfOk}
+use Rattle.std.proofs.lemmas.Result.{IfOk-weaker}
+use Rattle.std.proofs.lemmas.List.{map-append}
+use Rattle.base_core.specs.declared.sequence.NoMemory.{NoMemory}
+use Rattle.hl_meaning.specs.declared.expression.Expr as held_expr
+use Rattle.hl_meaning.specs.Types.{Ty}
+use Rattle.hl_meaning.specs.Trees.{Expr, Form, an_expr}
+use Rattle.hl_meaning.specs.Views.{plain_expr, plain_form}
+use Rattle.hl_inline.specs.FlatTrees.{FlatStmt}
+use Rattle.hl_inline.specs.declared.emitting.Formed.{Formed}
+use Rattle.hl_inline.specs.Flattening.{Fresh, Inlined, Instance, Valued, emitted, form_emitter, settled}
+use Rattle.hl_inline.specs.Building.{Made, behind, made, operand_behind, valued}
+
+-- a form, emitted
+abbrev pub IsEmitted : List Inlined → Instance → (code code' : List FlatStmt) → (fresh fresh' : Fresh) → Form → Formed → Type 0
+IsEmitted k i code code' fresh fresh' form m =
+    (ty : Ty) → (at : ℕ) → behind code ((form_emitter k i ty at form).emit fresh) ≡ valued code' (an_expr ty at (plain_form m.form)) m.fixed fresh'
+
+-- what a function gives for a form that is the same
+pub emitted_as : (k : List Inlined) (i : Instance) (code code' : List FlatStmt) (fresh fresh' : Fresh) (ty : Ty) (at : ℕ) (r : Result Formed NoMemory) (f g : Form) →
+    g ≡ f → IfOk r (λ m. IsEmitted k i code code' fresh fresh' f m) →
+    IfOk r (λ m. behind code ((form_emitter k i ty at g).emit fresh) ≡ valued code' (an_expr ty at (plain_form m.form)) m.fixed fresh')
+emitted_as k i code code' fresh fresh' ty at r f g is done =
+    IfOk-weaker r _ _ (λ m e. ap (λ h. behind code ((form_emitter k i ty at h).emit fresh)) is ∙ e ty at) done
+
+-- a form that is made of what was emitted
+pub formed : (k : List Inlined) (i : Instance) (code code' : List FlatStmt) (fresh fresh' : Fresh) (ty : Ty) (at : ℕ) (m : Formed) (f g h : Form) (fixed : Bool) →
+    g ≡ f → behind code ((form_emitter k i ty at f).emit fresh) ≡ valued code' (an_expr ty at h) fixed fresh' → plain_form m.form ≡ h → m.fixed ≡ fixed →
+    behind code ((form_emitter k i ty at g).emit fresh) ≡ valued code' (an_expr ty at (plain_form m.form)) m.fixed fresh'
+formed k i code code' fresh fresh' ty at m f g h fixed is done made_is fixed_is =
+    ap (λ x. behind code ((form_emitter k i ty at x).emit fresh)) is ∙
+    (done ∙ (ap (λ x. valued code' (an_expr ty at x) fixed fresh') (sym made_is) ∙ ap (λ b. valued code' (an_expr ty at (plain_form m.form)) b fresh') (sym fixed_is)))
+
+-- an operand that is a value of another equal expression
+pub operand_of : (k : List Inlined) (i : Instance) (code : List FlatStmt) (fresh : Fresh) (further : Bool) (e e' : Expr) (o : Made Expr) → e' ≡ e →
+    operand_behind code (settled further (emitted k i e fresh)) ≡ o → operand_behind code (settled further (emitted k i e' fresh)) ≡ o
+operand_of k i code fresh further e e' o is done = ap (λ x. operand_behind code (settled further (emitted k i x fresh))) is ∙ done

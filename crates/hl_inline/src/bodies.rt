@@ -7,7 +7,7 @@ ghost use Rattle.std.specs.Prelude.{◌≡◌, ◌++◌, IfOk, OnOk, option_map}
 ghost use Rattle.hl_meaning.specs.Trees.{block_stmt, do_stmt, for_stmt, if_stmt, while_stmt};
 ghost use Rattle.hl_meaning.specs.Views.{plain_expr, plain_function, plain_maybe_stmt, plain_stmt, plain_stmts};
 ghost use Rattle.hl_inline.specs.Building.{branches_of, callees_in, do_turn, instance_in, laid_to, lay_turns, left_of, plain_code, plain_fresh, plain_jumps, turn_of, while_turn};
-ghost use Rattle.hl_inline.specs.Flattening.{Jumps, emitted, inlined, is_call, jumps_of, laid_then, laid_with, lay, lay_all, lay_body, lay_if, lay_local, lay_return, lay_run, lay_run_if, lay_test, lay_test_if, set_to, with_jumps, zeros_first};
+ghost use Rattle.hl_inline.specs.Flattening.{Jumps as PlainJumps, emitted, inlined, is_call, jumps_of, laid_then, laid_with, lay, lay_all, lay_body, lay_if, lay_local, lay_return, lay_run, lay_run_if, lay_test, lay_test_if, set_to, with_jumps, zeros_first};
 
 use crate::adding::{
     add_block, add_choice, add_leave, add_loop, add_named, add_run, add_set, add_test, add_zeros,
@@ -418,7 +418,7 @@ fn lay_while(
     fresh: &mut Fresh,
     code: &mut FlatStmts,
 ) -> Result<(), NoMemory>
-    ensures { (j : Jumps) → OnOk result (laid_with (plain_code code.old) (lay (callees_in context.now) (instance_in context.now) j (while_stmt (plain_expr cond.now) (plain_stmt body.now)) (plain_fresh fresh.old)) ≡ laid_to (plain_code code.new) (plain_fresh fresh.new)) }
+    ensures { (j : PlainJumps) → OnOk result (laid_with (plain_code code.old) (lay (callees_in context.now) (instance_in context.now) j (while_stmt (plain_expr cond.now) (plain_stmt body.now)) (plain_fresh fresh.old)) ≡ laid_to (plain_code code.new) (plain_fresh fresh.new)) }
 {
     let jumps = take_jumps(fresh)?;
     let turn = laid_while(context, jumps, cond, body, fresh)?;
@@ -451,7 +451,7 @@ fn lay_do(
     fresh: &mut Fresh,
     code: &mut FlatStmts,
 ) -> Result<(), NoMemory>
-    ensures { (j : Jumps) → OnOk result (laid_with (plain_code code.old) (lay (callees_in context.now) (instance_in context.now) j (do_stmt (plain_stmt body.now) (plain_expr cond.now)) (plain_fresh fresh.old)) ≡ laid_to (plain_code code.new) (plain_fresh fresh.new)) }
+    ensures { (j : PlainJumps) → OnOk result (laid_with (plain_code code.old) (lay (callees_in context.now) (instance_in context.now) j (do_stmt (plain_stmt body.now) (plain_expr cond.now)) (plain_fresh fresh.old)) ≡ laid_to (plain_code code.new) (plain_fresh fresh.new)) }
 {
     let jumps = take_jumps(fresh)?;
     let turn = laid_do(context, jumps, body, cond, fresh)?;

@@ -60,9 +60,9 @@ one-result ty at other = ap (λ b. result b) (type_cases (λ t. (t ≡ Void → 
     result b = if b then [] else unnamed (plain_ty ty) at ∷ []
 
 -- what the variable of a parameter starts with that takes a value
-pub start-given : (copying : Copying) (place : Location) (at : ℕ) → (copying ≡ CopyIn) ⊎ (copying ≡ CopyBoth) → start_value copying place at ≡ Some (an_expr (place_type place) at (read_form place))
-start-given copying place at (inl is) = ap (λ c. start_value c place at) is
-start-given copying place at (inr is) = ap (λ c. start_value c place at) is
+pub start-given : (given : Copying) (place : Location) (at : ℕ) → (given ≡ CopyIn) ⊎ (given ≡ CopyBoth) → start_value given place at ≡ Some (an_expr (place_type place) at (read_form place))
+start-given given place at (inl is) = ap (λ c. start_value c place at) is
+start-given given place at (inr is) = ap (λ c. start_value c place at) is
 
 pub place_type-is : (l : HeldLocation) → place_type (plain_location l) ≡ plain_ty l.ty
 place_type-is l = ap place_type (plain_location-is l)

@@ -35,3 +35,4 @@ pub mod OneStatement
 pub mod Growing
 pub mod Settled
 pub mod Callees
+pub mod Entered

@@ -1,5 +1,12 @@
 //! Programs become programs without calls.
 
+ghost use Rattle.std.specs.Prelude.{◌≡◌, IfOk};
+ghost use Rattle.hl_meaning.specs.Held.{plain_program};
+ghost use Rattle.hl_meaning.specs.Views.{plain_function};
+ghost use Rattle.hl_inline.specs.Building.{inlined_all, laid_to, named_body, plain_code, plain_fresh};
+ghost use Rattle.hl_inline.specs.Entering.{entry_before, entry_behind, plain_flat, plain_parts};
+ghost use Rattle.hl_inline.specs.Flattening.{flattened, inlined, laid_with};
+
 use crate::calling::lay_named;
 use crate::constants::set_constants;
 use crate::context::Context;
@@ -8,31 +15,59 @@ use crate::flat::{Flat, FlatStmts};
 use crate::fresh::Fresh;
 use crate::parts::{copied_resources, copied_structs, copied_variables};
 use base_core::NoMemory;
-use hl_meaning::{FunctionDef, Program};
+use hl_meaning::{FunctionDef, Program, Resources, StructDefs, Variables};
 use std::alloc::Global;
+
+/// The parts of a program without calls.
+#[derive(Debug, Drop)]
+struct Parts {
+    structs: StructDefs,
+    variables: Variables,
+    resources: Resources,
+    shared: Variables,
+    threads: [u32; 3],
+    body: FlatStmts,
+}
 
 /// The program without calls. Each call is replaced by the body of its function, with variables and names of its own.
 ///
 /// # Errors
 /// `NoMemory` where memory is refused, and where more variables or names are needed than there are numbers.
-pub fn inline(alloc: Global, program: &Program) -> Result<Flat, NoMemory> {
+pub fn inline(alloc: Global, program: &Program) -> Result<Flat, NoMemory>
+    ensures { IfOk result (λ flat. plain_flat flat ≡ flattened (plain_program program.now)) }
+{
+    let parts = flat_parts(alloc, program)?;
+    let threads = parts.threads;
+    Ok(Flat {
+        structs: parts.structs,
+        variables: parts.variables,
+        resources: parts.resources,
+        shared: parts.shared,
+        threads,
+        body: parts.body,
+    })
+}
+
+/// The parts of the program without calls.
+fn flat_parts(alloc: Global, program: &Program) -> Result<Parts, NoMemory>
+    ensures { IfOk result (λ parts. plain_parts parts ≡ flattened (plain_program program.now)) }
+{
+    let threads = program.threads;
     let number = program.entry as usize;
     let functions = program.functions.as_slice();
-    if number >= functions.len() {
-        return Err(NoMemory);
-    }
     let entry = &functions[number];
+    let callees = &functions[..number];
     let mut fresh = entry_fresh(alloc, program.constants.as_slice(), entry)?;
-    let body = entry_code(alloc, program, functions, number, entry, &mut fresh)?;
+    let body = entry_code(alloc, program, callees, entry, &mut fresh)?;
     let structs = copied_structs(alloc, &program.structs)?;
     let resources = copied_resources(alloc, &program.resources)?;
     let shared = copied_variables(alloc, &program.shared)?;
-    Ok(Flat {
+    Ok(Parts {
         structs,
         variables: fresh.variables,
         resources,
         shared,
-        threads: program.threads,
+        threads,
         body,
     })
 }
@@ -41,26 +76,22 @@ pub fn inline(alloc: Global, program: &Program) -> Result<Flat, NoMemory> {
 fn entry_code(
     alloc: Global,
     program: &Program,
-    functions: &[FunctionDef],
-    number: usize,
+    callees: &[FunctionDef],
     entry: &FunctionDef,
     fresh: &mut Fresh,
-) -> Result<FlatStmts, NoMemory> {
+) -> Result<FlatStmts, NoMemory>
+    ensures { IfOk result (λ code. laid_with (entry_before (plain_program program.now) (plain_function entry.now)) (named_body (inlined (inlined_all callees.now) (plain_function entry.now)) (entry_behind (plain_program program.now) (plain_fresh fresh.old)) (plain_fresh fresh.old)) ≡ laid_to (plain_code code) (plain_fresh fresh.new)) }
+{
     let first = program.constants.len() as u32;
     let context = Context {
         alloc,
-        functions: &functions[..number],
+        functions: callees,
         first,
         result: fresh.next(),
         exit: 0,
     };
     let mut code = FlatStmts::new(alloc);
-    set_constants(
-        alloc,
-        &program.structs,
-        &program.constants,
-        &mut code,
-    )?;
+    set_constants(alloc, &program.structs, &program.constants, &mut code)?;
     set_inputs(first, entry.parameters.as_slice(), &mut code)?;
     lay_named(&context, entry, fresh, &mut code)?;
     Ok(code)

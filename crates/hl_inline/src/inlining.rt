@@ -1,10 +1,12 @@
 //! Programs become programs without calls.
 
-ghost use Rattle.std.specs.Prelude.{◌≡◌, IfOk};
+ghost use Rattle.std.specs.Prelude.{◌≡◌, ◌≤◌, IfOk};
 ghost use Rattle.hl_meaning.specs.Held.{plain_program};
+ghost use Rattle.hl_meaning.specs.Sums.{variable_words};
 ghost use Rattle.hl_meaning.specs.Views.{plain_function};
 ghost use Rattle.hl_inline.specs.Building.{inlined_all, laid_to, named_body, plain_code, plain_fresh};
 ghost use Rattle.hl_inline.specs.Entering.{entry_before, entry_behind, plain_flat, plain_parts};
+ghost use Rattle.hl_inline.specs.FlatWellFormed.{most_shared_words};
 ghost use Rattle.hl_inline.specs.Flattening.{flattened, inlined, laid_with};
 
 use crate::calling::lay_named;
@@ -34,6 +36,7 @@ struct Parts {
 /// # Errors
 /// `NoMemory` where memory is refused, and where more variables or names are needed than there are numbers.
 pub fn inline(alloc: Global, program: &Program) -> Result<Flat, NoMemory>
+    requires { variable_words (plain_program program.now).structs (plain_program program.now).shared ≤ most_shared_words }
     ensures { IfOk result (λ flat. plain_flat flat ≡ flattened (plain_program program.now)) }
 {
     let parts = flat_parts(alloc, program)?;

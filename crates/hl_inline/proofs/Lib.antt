@@ -3,6 +3,7 @@ pub mod InlinedLemmas
 pub mod Weights
 pub mod LayingLemmas
 pub mod CalleeLemmas
+pub mod FormCases
 pub mod FlatPlain
 pub mod BuildingLemmas
 pub mod LastLemmas

@@ -1,19 +1,22 @@
 -- Variables and statements that are added one after another.
-use Rattle.std.proofs.Common.{◌≡◌, ◌∙◌, refl, ap, sym, ℕ, suc, ◌+◌, ◌<◌, ◌≤◌, List, [], ◌∷◌, ◌++◌, Option, None, Some, append-nil, append_assoc, drop, get_or, length, map, take}
-use Rattle.std.proofs.lemmas.List.{drop_all, map-append, take_all}
+use Rattle.std.proofs.Common.{◌≡◌, ◌∙◌, refl, ap, sym, ℕ, suc, ◌+◌, ◌<◌, ◌≤◌, List, [], ◌∷◌, ◌++◌, Option, None, Some, add-one, append-nil, append_assoc, ◌⊎◌, inl, inr, arith, drop, get_or, length, map, min, take}
+use Rattle.std.proofs.lemmas.Bool.{cases_lt}
+use Rattle.std.proofs.lemmas.List.{drop_all, drop_more, map-append, take_all}
+use Rattle.hl_meaning.specs.declared.program.Constant.{Constant as HeldConstant}
 use Rattle.hl_meaning.specs.declared.program.Parameter.{Parameter}
 use Rattle.hl_meaning.specs.declared.program.Semantic.{Semantic}
 use Rattle.hl_meaning.specs.declared.program.Variable as held
 use Rattle.hl_meaning.specs.declared.ty.Kind.{Kind}
-use Rattle.hl_meaning.specs.Programs.{Variable}
+use Rattle.hl_meaning.specs.Layout.{kinds_in, kinds_of, struct_kinds_after}
+use Rattle.hl_meaning.specs.Programs.{StructDef, Variable}
 use Rattle.hl_meaning.specs.Trees.{an_expr, literal_form}
-use Rattle.hl_meaning.specs.Types.{scalar_type}
-use Rattle.hl_meaning.specs.Views.{plain_variable}
+use Rattle.hl_meaning.specs.Types.{Ty, scalar_type}
+use Rattle.hl_meaning.specs.Views.{plain_constant, plain_variable}
 use Rattle.hl_inline.specs.declared.fresh.Fresh.{Fresh}
 use Rattle.hl_inline.specs.Building.{plain_fresh}
-use Rattle.hl_inline.specs.FlatTrees.{flat_input}
+use Rattle.hl_inline.specs.FlatTrees.{FlatStmt, flat_input, flat_local}
 use Rattle.hl_inline.specs.Flattening as flattening
-use Rattle.hl_inline.specs.Flattening.{literals, set_inputs, with_variables}
+use Rattle.hl_inline.specs.Flattening.{constant_value, literals, set_constants, set_inputs, with_variables}
 use Rattle.hl_inline.proofs.Gathering.{drop-next, take-next}
 
 -- variables
@@ -76,19 +79,48 @@ inputs-some first p semantic is = rw is refl
 pub inputs-none : (first : ℕ) (p : Parameter) → p.semantic ≡ None → set_inputs first (p ∷ []) ≡ []
 inputs-none first p is = rw is refl
 
+-- constants
+
+pub constants-next : (structs : List StructDef) (xs : List HeldConstant) (i : ℕ) (x : HeldConstant) (now end whole : List FlatStmt) → i < length xs → x ≡ get_or xs i x
+    → end ≡ now ++ flat_local i (Some (constant_value structs (plain_constant x))) ∷ []
+    → now ++ set_constants structs i (map plain_constant (drop i xs)) ≡ whole → end ++ set_constants structs (i + 1) (map plain_constant (drop (i + 1) xs)) ≡ whole
+constants-next structs xs i x now end whole within is grown e =
+    let rest = map plain_constant (drop (i + 1) xs) in
+    let own = flat_local i (Some (constant_value structs (plain_constant x))) in
+    ap (λ l. l ++ set_constants structs (i + 1) rest) grown ∙ (append_assoc now (own ∷ []) (set_constants structs (i + 1) rest) ∙
+    (ap (λ n. now ++ own ∷ set_constants structs n rest) (add-one i) ∙
+    (ap (λ l. now ++ set_constants structs i (map plain_constant l)) (sym (drop-next xs i x within is)) ∙ e)))
+
+pub constants-end : (structs : List StructDef) (xs : List HeldConstant) (i : ℕ) (now whole : List FlatStmt) → length xs ≤ i
+    → now ++ set_constants structs i (map plain_constant (drop i xs)) ≡ whole → now ≡ whole
+constants-end structs xs i now whole past e =
+    sym (append-nil now) ∙ (ap (λ l. now ++ set_constants structs i (map plain_constant l)) (sym (drop_all i xs past)) ∙ e)
+
+-- the kinds of the words of a type, where those of each struct are known
+pub kinds-known : (known : List (List Kind)) (structs : List StructDef) (ty : Ty) → known ≡ struct_kinds_after [] structs → kinds_in known ty ≡ kinds_of structs ty
+unfolding kinds_of
+kinds-known known structs ty same = ap (λ k. kinds_in k ty) same
+
 -- literals
 
-pub literals-next : (at : ℕ) (kinds : List Kind) (words : List ℕ) (i : ℕ) (kind : Kind) (word : ℕ) → i < length kinds → kind ≡ get_or kinds i kind → i < length words → word ≡ get_or words i word
-    → literals at (drop i kinds) (drop i words) ≡ an_expr (scalar_type kind) at (literal_form word) ∷ literals at (drop (i + 1) kinds) (drop (i + 1) words)
-literals-next at kinds words i kind word a b c d =
-    ap (λ l. literals at l (drop i words)) (drop-next kinds i kind a b) ∙ ap (λ l. literals at (kind ∷ drop (i + 1) kinds) l) (drop-next words i word c d)
+pub literals-next : (at : ℕ) (kinds : List Kind) (words : List ℕ) (i : ℕ) (kind : Kind) (word : ℕ) → i < length kinds → i < length words
+    → literals at (drop i kinds) (drop i words) ≡ an_expr (scalar_type (get_or kinds i kind)) at (literal_form (get_or words i word)) ∷ literals at (drop (i + 1) kinds) (drop (i + 1) words)
+literals-next at kinds words i kind word a b =
+    ap (λ l. literals at l (drop i words)) (drop_more kinds i kind a) ∙ ap (λ l. literals at (get_or kinds i kind ∷ drop (i + 1) kinds) l) (drop_more words i word b)
 
 literals-none : (at : ℕ) (kinds : List Kind) → literals at kinds [] ≡ []
 literals-none at [] = refl
 literals-none at (kind ∷ kinds) = refl
 
-pub literals-no_kind : (at : ℕ) (kinds : List Kind) (words : List ℕ) (i : ℕ) → length kinds ≤ i → literals at (drop i kinds) (drop i words) ≡ []
+literals-no_kind : (at : ℕ) (kinds : List Kind) (words : List ℕ) (i : ℕ) → length kinds ≤ i → literals at (drop i kinds) (drop i words) ≡ []
 literals-no_kind at kinds words i past = ap (λ l. literals at l (drop i words)) (drop_all i kinds past)
 
-pub literals-no_word : (at : ℕ) (kinds : List Kind) (words : List ℕ) (i : ℕ) → length words ≤ i → literals at (drop i kinds) (drop i words) ≡ []
+literals-no_word : (at : ℕ) (kinds : List Kind) (words : List ℕ) (i : ℕ) → length words ≤ i → literals at (drop i kinds) (drop i words) ≡ []
 literals-no_word at kinds words i past = ap (literals at (drop i kinds)) (drop_all i words past) ∙ literals-none at (drop i kinds)
+
+pub literals-over : (at : ℕ) (kinds : List Kind) (words : List ℕ) (i : ℕ) → min (length kinds) (length words) ≤ i → literals at (drop i kinds) (drop i words) ≡ []
+literals-over at kinds words i past = by_place (cases_lt i (length kinds))
+  where
+    by_place : (i < length kinds) ⊎ (length kinds ≤ i) → literals at (drop i kinds) (drop i words) ≡ []
+    by_place (inl within) = literals-no_word at kinds words i (omega (arith, past, within))
+    by_place (inr over) = literals-no_kind at kinds words i over

@@ -33,3 +33,4 @@ pub mod Reaches
 pub mod OneStatement
 pub mod Growing
 pub mod Settled
+pub mod Callees

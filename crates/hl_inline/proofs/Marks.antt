@@ -59,7 +59,7 @@ or-at (n ∷ known) number = by_test (number == n) (or-at known number)
     by_test true e = eqb-suc-zero (declarations known number)
     by_test false e = e
 
-count-at : (size : ℕ) (known : List ℕ) (number d : ℕ) → number < size → get_or (counts_of size known) number d ≡ declarations known number
+pub count-at : (size : ℕ) (known : List ℕ) (number d : ℕ) → number < size → get_or (counts_of size known) number d ≡ declarations known number
 count-at size known number d within = get_or-map-range_with_len (declarations known) 0 size number number d within (omega arith)
 
 pub length-counts : (size : ℕ) (known : List ℕ) → length (counts_of size known) ≡ size

@@ -2,8 +2,9 @@
 //!
 //! How often each variable is declared around a statement is counted. What a block declares ends with it.
 
-ghost use Rattle.std.specs.Prelude.{◌≡◌, ℕ, ◌^◌, ◌<◌, Bool, false, List, ◌∷◌, IfOk, OnOk, length, option_map, replicate};
+ghost use Rattle.std.specs.Prelude.{◌≡◌, ℕ, ◌^◌, ◌<◌, ◌≤◌, Bool, false, List, ◌∷◌, IfOk, OnOk, length, option_map, replicate};
 ghost use Rattle.std.specs.List.{range_with_len};
+ghost use Rattle.base_core.specs.Limits.{most_parts};
 ghost use Rattle.hl_meaning.specs.Views.{plain_expr, plain_function, plain_maybe_stmt, plain_stmt, plain_stmts};
 ghost use Rattle.hl_inline.specs.Early.{declared_by, declared_in, early, early_if, early_in, early_variables, parameter_numbers, undeclared};
 ghost use Rattle.hl_inline.specs.IndexedVariables.{expr_mentions, expr_option_mentions};
@@ -36,7 +37,8 @@ pub(crate) fn early_variables(alloc: Global, function: &FunctionDef) -> Result<W
 
 /// The variables of the parameters are declared from the start.
 fn at_start(alloc: Global, function: &FunctionDef) -> Result<Reached, NoMemory>
-    ensures { IfOk result (λ reached. plain_reached reached ≡ marking (parameter_numbers (plain_function function.now)) (replicate (length function.now.variables) false)) }
+    ensures start { IfOk result (λ reached. plain_reached reached ≡ marking (parameter_numbers (plain_function function.now)) (replicate (length function.now.variables) false)) }
+    ensures limit { length function.now.variables ≤ most_parts }
 {
     let mut declared = Vec::new(alloc);
     let mut early = Vec::new(alloc);
@@ -205,7 +207,8 @@ fn reach(reached: &mut Reached, stmt: &Stmt) -> Result<(), NoMemory>
             reach_value(reached, cond);
             Ok(())
         }
-        Stmt::Break | Stmt::Continue => Ok(()),
+        Stmt::Break => Ok(()),
+        Stmt::Continue => Ok(()),
         Stmt::Return(value) => {
             reach_if(reached, value);
             Ok(())
@@ -239,7 +242,8 @@ fn reach_value(reached: &mut Reached, value: &Expr)
 fn reach_if(reached: &mut Reached, value: &Option<Expr>)
     ensures { (known : List ℕ) → (marks : List Bool) → plain_reached reached.old ≡ marking known marks → plain_reached reached.new ≡ marking known (mark_all (undeclared known (expr_option_mentions (option_map plain_expr value.now))) marks) }
 {
-    if let Some(value) = value {
-        reach_value(reached, value);
+    match value {
+        Some(value) => reach_value(reached, value),
+        None => {}
     }
 }

@@ -1,6 +1,6 @@
 //! Whether calls stand in expressions.
 
-ghost use Rattle.std.specs.Prelude.{◌≡◌, List, map};
+ghost use Rattle.std.specs.Prelude.{◌≡◌, suc, ◌^◌, ◌<◌, if◌then◌else◌, List, map};
 ghost use Rattle.hl_meaning.specs.Views.{plain_expr, plain_location, plain_maybe_expr, plain_maybe_location, plain_part, plain_root, plain_target};
 ghost use Rattle.hl_inline.specs.Building.{expr_calls, last_true, part_calls};
 ghost use Rattle.hl_inline.specs.Flattening.{Inlined, Instance, any_calls, emitter, expr_if_emitters, part_emitters, place_emitters, place_if_emitters, root_emitters, target_emitters};
@@ -46,6 +46,14 @@ pub(crate) fn holds_call(expr: &Expr) -> bool
     }
 }
 
+/// How many there are up to the last that holds, where one of an index comes behind those so far.
+fn last_with(holds: bool, index: usize, last: usize) -> usize
+    requires { index < 2 ^ 63 }
+    ensures { result ≡ (if holds then suc index else last) }
+{
+    if holds { index + 1 } else { last }
+}
+
 /// How many of some expressions there are up to the last one that holds a call, and 0 where none does.
 #[cycle(holding)]
 pub(crate) fn last_call(exprs: &[Expr]) -> usize
@@ -53,9 +61,7 @@ pub(crate) fn last_call(exprs: &[Expr]) -> usize
 {
     let mut last = 0;
     for (index, expr) in exprs.iter().enumerate() {
-        if holds_call(expr) {
-            last = index + 1;
-        }
+        last = last_with(holds_call(expr), index, last);
     }
     last
 }
@@ -67,9 +73,7 @@ pub(crate) fn last_call_in_parts(parts: &[PathPart]) -> usize
 {
     let mut last = 0;
     for (index, part) in parts.iter().enumerate() {
-        if part_holds_call(part) {
-            last = index + 1;
-        }
+        last = last_with(part_holds_call(part), index, last);
     }
     last
 }

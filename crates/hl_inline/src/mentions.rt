@@ -151,7 +151,8 @@ fn note_root(root: &Root, declared: &[u32], early: &mut [bool])
     match root {
         Root::Variable(number) => note(*number, declared, early),
         Root::Element { index, .. } => note_expr(index.get(), declared, early),
-        Root::Constant(_) | Root::Shared(_) => {}
+        Root::Constant(_) => {}
+        Root::Shared(_) => {}
     }
 }
 
@@ -172,6 +173,7 @@ fn note_part(part: &PathPart, declared: &[u32], early: &mut [bool])
 {
     match part {
         PathPart::Index(index) => note_expr(index.get(), declared, early),
-        PathPart::Member(_) | PathPart::Swizzle(_) => {}
+        PathPart::Member(_) => {}
+        PathPart::Swizzle(_) => {}
     }
 }

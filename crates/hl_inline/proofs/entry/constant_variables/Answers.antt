@@ -1,4 +1,4 @@
-use Rattle.std.proofs.Common.{◌∷◌, [], map, refl}
+use Rattle.std.proofs.Common.{◌∷◌, ◌++◌, [], ap, map, refl}
 use Rattle.hl_meaning.specs.Views.{plain_constant, plain_variable}
 use Rattle.hl_inline.specs.Building.{constant_variables}
 use Rattle.hl_inline.proofs.Gathering.{mapped-more}
@@ -6,7 +6,7 @@ use Rattle.hl_inline.proofs.Growing.{given-end, given-next}
 use Rattle.hl_inline.proofs.entry.constant_variables.Goals as goal
 
 pub loop-constant-init : goal.loop-constant-init
-loop-constant-init c = refl
+loop-constant-init c = ap (λ l. map plain_variable l ++ constant_variables (map plain_constant c.args.constants.now)) c.new-variables.ensures
 
 pub loop-constant-preserved : goal.loop-constant-preserved
 loop-constant-preserved c =

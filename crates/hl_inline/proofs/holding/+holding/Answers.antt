@@ -1,4 +1,4 @@
-use Rattle.std.proofs.Common.{◌≡◌, ◌∙◌, ◌++◌, ◌∷◌, [], ap, false, arith, length, map, refl, sym}
+use Rattle.std.proofs.Common.{◌≡◌, ◌∙◌, ◌<◌, ◌++◌, ◌∷◌, [], ap, false, arith, length, map, refl, rules, sym}
 use Rattle.std.proofs.lemmas.List.{take_all}
 use Rattle.hl_meaning.specs.Views.{plain_expr, plain_form, plain_location, plain_maybe_expr, plain_maybe_location, plain_part, plain_parts, plain_root, plain_target}
 use Rattle.hl_meaning.proofs.Plain.{plain_form-Atomic, plain_form-Binary, plain_form-Build, plain_form-Call, plain_form-Choose, plain_form-Convert, plain_form-Intrinsic, plain_form-Literal, plain_form-Method, plain_form-Pick, plain_form-Read, plain_form-Unary, plain_form-Write, plain_location-is, plain_part-Index, plain_root-Element, plain_target-Bytes, plain_target-Place}
@@ -20,7 +20,7 @@ holds_call-returns-in-Read t c = λ k i.
 
 pub holds_call-returns-in-Write : goal.holds_call-returns-in-Write
 holds_call-returns-in-Write t c = λ k i.
-    both c.either.result c.place_holds_call-in-Write.result c.holds_call.result (place_emitters k i (plain_location c.in-Write.to)) (emitter k i (plain_expr c.in-Write.value) ∷ []) c.either.ensures (c.place_holds_call-in-Write.ensures k i) (one _ _ (c.holds_call.ensures k i ∙ ap (expr_calls k i) c.get.ensures)) ∙
+    both c.either.result c.place_holds_call-in-Write.result c.holds_call.result (place_emitters k i (plain_location c.in-Write.to)) (emitter k i (plain_expr c.in-Write.value) ∷ []) c.either.ensures (c.place_holds_call-in-Write.ensures k i) (one _ (emitter k i (plain_expr c.in-Write.value)) (c.holds_call.ensures k i ∙ ap (expr_calls k i) c.get.ensures)) ∙
     sym (calls-as k i c.args.expr.now _ (ap plain_form c.in-Write.is ∙ plain_form-Write _ _ _ _ _))
 
 pub holds_call-returns-in-Convert : goal.holds_call-returns-in-Convert
@@ -40,13 +40,13 @@ holds_call-returns-in-Pick t c = λ k i.
 
 pub holds_call-returns-in-Binary : goal.holds_call-returns-in-Binary
 holds_call-returns-in-Binary t c = λ k i.
-    both c.either-in-Binary.result c.holds_call-in-Binary.result c.holds_call-in-Binary-2.result (emitter k i (plain_expr c.in-Binary.left) ∷ []) (emitter k i (plain_expr c.in-Binary.right) ∷ []) c.either-in-Binary.ensures (one _ _ (c.holds_call-in-Binary.ensures k i ∙ ap (expr_calls k i) c.get-in-Binary.ensures)) (one _ _ (c.holds_call-in-Binary-2.ensures k i ∙ ap (expr_calls k i) c.get-in-Binary-2.ensures)) ∙
+    both c.either-in-Binary.result c.holds_call-in-Binary.result c.holds_call-in-Binary-2.result (emitter k i (plain_expr c.in-Binary.left) ∷ []) (emitter k i (plain_expr c.in-Binary.right) ∷ []) c.either-in-Binary.ensures (one _ (emitter k i (plain_expr c.in-Binary.left)) (c.holds_call-in-Binary.ensures k i ∙ ap (expr_calls k i) c.get-in-Binary.ensures)) (one _ (emitter k i (plain_expr c.in-Binary.right)) (c.holds_call-in-Binary-2.ensures k i ∙ ap (expr_calls k i) c.get-in-Binary-2.ensures)) ∙
     sym (calls-as k i c.args.expr.now _ (ap plain_form c.in-Binary.is ∙ plain_form-Binary _ _ _))
 
 pub holds_call-returns-in-Choose : goal.holds_call-returns-in-Choose
 holds_call-returns-in-Choose t c = λ k i.
-    both c.either-in-Choose.result c.holds_call-in-Choose-3.result c.either-branches.result (emitter k i (plain_expr c.in-Choose.cond) ∷ []) (emitter k i (plain_expr c.in-Choose.yes) ∷ emitter k i (plain_expr c.in-Choose.no) ∷ []) c.either-in-Choose.ensures (one _ _ (c.holds_call-in-Choose-3.ensures k i ∙ ap (expr_calls k i) c.get-in-Choose-3.ensures))
-    (both c.either-branches.result c.holds_call-in-Choose.result c.holds_call-in-Choose-2.result (emitter k i (plain_expr c.in-Choose.yes) ∷ []) (emitter k i (plain_expr c.in-Choose.no) ∷ []) c.either-branches.ensures (one _ _ (c.holds_call-in-Choose.ensures k i ∙ ap (expr_calls k i) c.get-in-Choose.ensures)) (one _ _ (c.holds_call-in-Choose-2.ensures k i ∙ ap (expr_calls k i) c.get-in-Choose-2.ensures))) ∙
+    both c.either-in-Choose.result c.holds_call-in-Choose-3.result c.either-branches.result (emitter k i (plain_expr c.in-Choose.cond) ∷ []) (emitter k i (plain_expr c.in-Choose.yes) ∷ emitter k i (plain_expr c.in-Choose.no) ∷ []) c.either-in-Choose.ensures (one _ (emitter k i (plain_expr c.in-Choose.cond)) (c.holds_call-in-Choose-3.ensures k i ∙ ap (expr_calls k i) c.get-in-Choose-3.ensures))
+    (both c.either-branches.result c.holds_call-in-Choose.result c.holds_call-in-Choose-2.result (emitter k i (plain_expr c.in-Choose.yes) ∷ []) (emitter k i (plain_expr c.in-Choose.no) ∷ []) c.either-branches.ensures (one _ (emitter k i (plain_expr c.in-Choose.yes)) (c.holds_call-in-Choose.ensures k i ∙ ap (expr_calls k i) c.get-in-Choose.ensures)) (one _ (emitter k i (plain_expr c.in-Choose.no)) (c.holds_call-in-Choose-2.ensures k i ∙ ap (expr_calls k i) c.get-in-Choose-2.ensures))) ∙
     sym (calls-as k i c.args.expr.now _ (ap plain_form c.in-Choose.is ∙ plain_form-Choose _ _ _))
 
 pub holds_call-returns-in-Build : goal.holds_call-returns-in-Build
@@ -66,23 +66,23 @@ holds_call-returns-in-Intrinsic t c = λ k i.
 
 pub holds_call-returns-in-Method : goal.holds_call-returns-in-Method
 holds_call-returns-in-Method t c = λ k i.
-    both c.either-in-Method.result c.holds_call-in-Method.result c.expr_if_holds_call.result (emitter k i (plain_expr c.in-Method.address) ∷ []) (expr_if_emitters k i (plain_maybe_expr c.in-Method.value)) c.either-in-Method.ensures (one _ _ (c.holds_call-in-Method.ensures k i ∙ ap (expr_calls k i) c.get-in-Method.ensures)) (c.expr_if_holds_call.ensures k i) ∙
+    both c.either-in-Method.result c.holds_call-in-Method.result c.expr_if_holds_call.result (emitter k i (plain_expr c.in-Method.address) ∷ []) (expr_if_emitters k i (plain_maybe_expr c.in-Method.value)) c.either-in-Method.ensures (one _ (emitter k i (plain_expr c.in-Method.address)) (c.holds_call-in-Method.ensures k i ∙ ap (expr_calls k i) c.get-in-Method.ensures)) (c.expr_if_holds_call.ensures k i) ∙
     sym (calls-as k i c.args.expr.now _ (ap plain_form c.in-Method.is ∙ plain_form-Method _ _ _ _))
 
 pub holds_call-returns-in-Atomic : goal.holds_call-returns-in-Atomic
 holds_call-returns-in-Atomic t c = λ k i.
     both c.either-in-Atomic.result c.target_holds_call.result c.either-behind-in-Atomic.result (target_emitters k i (plain_target c.in-Atomic.target)) (expr_if_emitters k i (plain_maybe_expr c.in-Atomic.compare) ++ emitter k i (plain_expr c.in-Atomic.value) ∷ place_if_emitters k i (plain_maybe_location c.in-Atomic.original)) c.either-in-Atomic.ensures (c.target_holds_call.ensures k i)
     (both c.either-behind-in-Atomic.result c.expr_if_holds_call-in-Atomic.result c.either-behind.result (expr_if_emitters k i (plain_maybe_expr c.in-Atomic.compare)) (emitter k i (plain_expr c.in-Atomic.value) ∷ place_if_emitters k i (plain_maybe_location c.in-Atomic.original)) c.either-behind-in-Atomic.ensures (c.expr_if_holds_call-in-Atomic.ensures k i)
-    (both c.either-behind.result c.holds_call-in-Atomic.result c.place_if_holds_call.result (emitter k i (plain_expr c.in-Atomic.value) ∷ []) (place_if_emitters k i (plain_maybe_location c.in-Atomic.original)) c.either-behind.ensures (one _ _ (c.holds_call-in-Atomic.ensures k i ∙ ap (expr_calls k i) c.get-in-Atomic.ensures)) (c.place_if_holds_call.ensures k i))) ∙
+    (both c.either-behind.result c.holds_call-in-Atomic.result c.place_if_holds_call.result (emitter k i (plain_expr c.in-Atomic.value) ∷ []) (place_if_emitters k i (plain_maybe_location c.in-Atomic.original)) c.either-behind.ensures (one _ (emitter k i (plain_expr c.in-Atomic.value)) (c.holds_call-in-Atomic.ensures k i ∙ ap (expr_calls k i) c.get-in-Atomic.ensures)) (c.place_if_holds_call.ensures k i))) ∙
     sym (calls-as k i c.args.expr.now _ (ap plain_form c.in-Atomic.is ∙ plain_form-Atomic _ _ _ _ _))
 
 pub part_holds_call-returns-in-Index : goal.part_holds_call-returns-in-Index
 part_holds_call-returns-in-Index t c = λ k i.
-    one _ _ (c.holds_call.ensures k i ∙ ap (expr_calls k i) c.get.ensures) ∙ sym (ap (λ p. any_calls (part_emitters k i p)) (ap plain_part c.in-Index.is ∙ plain_part-Index _))
+    one _ (emitter k i (plain_expr c.in-Index.index)) (c.holds_call.ensures k i ∙ ap (expr_calls k i) c.get.ensures) ∙ sym (ap (λ p. any_calls (part_emitters k i p)) (ap plain_part c.in-Index.is ∙ plain_part-Index _))
 
 pub root_holds_call-returns-in-Element : goal.root_holds_call-returns-in-Element
 root_holds_call-returns-in-Element t c = λ k i.
-    one _ _ (c.holds_call.ensures k i ∙ ap (expr_calls k i) c.get.ensures) ∙ sym (ap (λ r. any_calls (root_emitters k i r)) (ap plain_root c.in-Element.is ∙ plain_root-Element _ _))
+    one _ (emitter k i (plain_expr c.in-Element.index)) (c.holds_call.ensures k i ∙ ap (expr_calls k i) c.get.ensures) ∙ sym (ap (λ r. any_calls (root_emitters k i r)) (ap plain_root c.in-Element.is ∙ plain_root-Element _ _))
 
 pub target_holds_call-returns-in-Place : goal.target_holds_call-returns-in-Place
 target_holds_call-returns-in-Place t c = λ k i.
@@ -90,7 +90,7 @@ target_holds_call-returns-in-Place t c = λ k i.
 
 pub target_holds_call-returns-in-Bytes : goal.target_holds_call-returns-in-Bytes
 target_holds_call-returns-in-Bytes t c = λ k i.
-    one _ _ (c.holds_call.ensures k i ∙ ap (expr_calls k i) c.get.ensures) ∙ sym (ap (λ x. any_calls (target_emitters k i x)) (ap plain_target c.in-Bytes.is ∙ plain_target-Bytes _ _))
+    one _ (emitter k i (plain_expr c.in-Bytes.address)) (c.holds_call.ensures k i ∙ ap (expr_calls k i) c.get.ensures) ∙ sym (ap (λ x. any_calls (target_emitters k i x)) (ap plain_target c.in-Bytes.is ∙ plain_target-Bytes _ _))
 
 pub place_holds_call-returns : goal.place_holds_call-returns
 place_holds_call-returns t c = λ k i.
@@ -121,3 +121,15 @@ root_holds_call-returns-in-Variable-2 t c = λ k i. root-no_element (λ r. any_c
 
 pub root_holds_call-returns-in-Variable-3 : goal.root_holds_call-returns-in-Variable-3
 root_holds_call-returns-in-Variable-3 t c = λ k i. root-no_element (λ r. any_calls (root_emitters k i r)) false c.args.root.now c.in-Variable.is (λ x. refl) (λ x. refl) (λ x. refl)
+
+pub last_call-loop-index-preserved : goal.last_call-loop-index-preserved
+last_call-loop-index-preserved t c = λ k i.
+    let within : c.loop-index.index < length c.args.exprs.now = search rules in
+    last-next (expr_calls k i) c.args.exprs.now c.loop-index.index c.index-exprs-index.result c.holds_call.result c.loop-index.last c.last_with-last.result
+    within c.index-exprs-index.is (c.loop-index.invariant k i) (c.holds_call.ensures k i) c.last_with-last.ensures
+
+pub last_call_in_parts-loop-index-preserved : goal.last_call_in_parts-loop-index-preserved
+last_call_in_parts-loop-index-preserved t c = λ k i.
+    let within : c.loop-index.index < length c.args.parts.now = search rules in
+    last-next (part_calls k i) c.args.parts.now c.loop-index.index c.index-parts-index.result c.part_holds_call.result c.loop-index.last c.last_with-last.result
+    within c.index-parts-index.is (c.loop-index.invariant k i) (c.part_holds_call.ensures k i) c.last_with-last.ensures

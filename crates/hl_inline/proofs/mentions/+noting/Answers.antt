@@ -1,9 +1,9 @@
 use Rattle.std.proofs.Common.{◌≡◌, ◌∙◌, ◌++◌, ◌∷◌, [], ap, refl, sym}
 use Rattle.hl_meaning.specs.Views.{plain_arg, plain_args, plain_expr, plain_exprs, plain_form, plain_location, plain_maybe_expr, plain_maybe_location, plain_part, plain_parts, plain_root, plain_target}
-use Rattle.hl_meaning.proofs.Plain.{plain_arg-Place, plain_arg-Value, plain_form-Atomic, plain_form-Binary, plain_form-Build, plain_form-Call, plain_form-Choose, plain_form-Convert, plain_form-Intrinsic, plain_form-Literal, plain_form-Method, plain_form-Pick, plain_form-Read, plain_form-Unary, plain_form-Write, plain_location-is, plain_part-Index, plain_root-Element, plain_target-Bytes, plain_target-Place}
+use Rattle.hl_meaning.proofs.Plain.{plain_arg-Place, plain_arg-Value, plain_form-Atomic, plain_form-Binary, plain_form-Build, plain_form-Call, plain_form-Choose, plain_form-Convert, plain_form-Intrinsic, plain_form-Literal, plain_form-Method, plain_form-Pick, plain_form-Read, plain_form-Unary, plain_form-Write, plain_location-is, plain_part-Index, plain_part-Member, plain_part-Swizzle, plain_root-Constant, plain_root-Element, plain_root-Shared, plain_target-Bytes, plain_target-Place}
 use Rattle.hl_inline.specs.IndexedVariables.{arg_mentions, args_mentions, call_mention, expr_if_mentions, expr_mentions, exprs_mentions, form_mentions, location_if_mentions, location_mentions, part_mentions, parts_mentions, place_mention, root_mentions, target_mentions}
 use Rattle.hl_inline.specs.Marking.{mark_text}
-use Rattle.hl_inline.proofs.GivenForms.{part-other, root-other, root-variable}
+use Rattle.hl_inline.proofs.GivenForms.{root-variable}
 use Rattle.hl_inline.proofs.Marks.{form-text, mark_text-append, text-end, text-next, text-then}
 use Rattle.hl_inline.proofs.mentions.+noting.Goals as goal
 
@@ -134,19 +134,19 @@ note_root-returns-in-Element t c = λ parts.
     (c.note_expr.ensures ∙ ap (λ e. mark_text k (expr_mentions (plain_expr e)) c.args.early.now) c.get.ensures) ∙
     sym (ap (λ r. mark_text k (place_mention r parts ∷ root_mentions r) c.args.early.now) (ap plain_root c.in-Element.is ∙ plain_root-Element _ _))
 
-pub note_root-returns : goal.note_root-returns
-note_root-returns t c = λ parts.
-    root-other (λ r. mark_text c.args.declared.now (place_mention r parts ∷ root_mentions r) c.args.early.now) c.args.early.now c.args.root.now c.in-Constant.is (λ x. refl) (λ x. refl)
+pub note_root-returns-in-Constant : goal.note_root-returns-in-Constant
+note_root-returns-in-Constant t c = λ parts.
+    sym (ap (λ r. mark_text c.args.declared.now (place_mention r parts ∷ root_mentions r) c.args.early.now) (ap plain_root c.in-Constant.is ∙ plain_root-Constant _))
 
-pub note_part-returns : goal.note_part-returns
-note_part-returns t c = part-other (λ p. mark_text c.args.declared.now (part_mentions p) c.args.early.now) c.args.early.now c.args.part.now c.in-Member.is (λ x. refl) (λ x. refl)
+pub note_root-returns-in-Shared : goal.note_root-returns-in-Shared
+note_root-returns-in-Shared t c = λ parts.
+    sym (ap (λ r. mark_text c.args.declared.now (place_mention r parts ∷ root_mentions r) c.args.early.now) (ap plain_root c.in-Shared.is ∙ plain_root-Shared _))
 
-pub note_root-returns-2 : goal.note_root-returns-2
-note_root-returns-2 t c = λ parts.
-    root-other (λ r. mark_text c.args.declared.now (place_mention r parts ∷ root_mentions r) c.args.early.now) c.args.early.now c.args.root.now c.in-Constant.is (λ x. refl) (λ x. refl)
+pub note_part-returns-in-Member : goal.note_part-returns-in-Member
+note_part-returns-in-Member t c = sym (ap (λ p. mark_text c.args.declared.now (part_mentions p) c.args.early.now) (ap plain_part c.in-Member.is ∙ plain_part-Member _))
 
-pub note_part-returns-2 : goal.note_part-returns-2
-note_part-returns-2 t c = part-other (λ p. mark_text c.args.declared.now (part_mentions p) c.args.early.now) c.args.early.now c.args.part.now c.in-Member.is (λ x. refl) (λ x. refl)
+pub note_part-returns-in-Swizzle : goal.note_part-returns-in-Swizzle
+note_part-returns-in-Swizzle t c = sym (ap (λ p. mark_text c.args.declared.now (part_mentions p) c.args.early.now) (ap plain_part c.in-Swizzle.is ∙ plain_part-Swizzle _))
 
 pub note_exprs-loop-expr-init : goal.note_exprs-loop-expr-init
 note_exprs-loop-expr-init t c = refl

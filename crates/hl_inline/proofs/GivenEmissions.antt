@@ -4,12 +4,13 @@ use Rattle.std.specs.Prelude.{Result, IfOk}
 use Rattle.std.proofs.lemmas.Result.{IfOk-weaker}
 use Rattle.std.proofs.lemmas.List.{append_assoc, append-nil}
 use Rattle.base_core.specs.declared.sequence.NoMemory.{NoMemory}
+use Rattle.hl_meaning.specs.declared.expression.Expr as held_expr
 use Rattle.hl_meaning.specs.Types.{Ty}
-use Rattle.hl_meaning.specs.Trees.{Form, an_expr, literal_form}
-use Rattle.hl_meaning.specs.Views.{plain_form}
+use Rattle.hl_meaning.specs.Trees.{Args, Expr, Form, an_expr, call_form, literal_form}
+use Rattle.hl_meaning.specs.Views.{plain_expr, plain_form}
 use Rattle.hl_inline.specs.FlatTrees.{FlatStmt, flat_local}
 use Rattle.hl_inline.specs.declared.emitting.Formed.{Formed}
-use Rattle.hl_inline.specs.Flattening.{Fresh, Inlined, Instance, Valued, form_emitter, next_of, saved, settled}
+use Rattle.hl_inline.specs.Flattening.{Fresh, Inlined, Instance, Valued, args_emitters, call, emitted, form_emitter, inlined_at, next_of, saved, settled}
 use Rattle.hl_inline.specs.Building.{behind, made, operand_behind, valued}
 
 -- a form, emitted
@@ -47,3 +48,23 @@ settled_if false code x = refl
 
 pub settled_behind : (further : Bool) (code : List FlatStmt) (x : Valued) → operand_behind code (settled further x) ≡ operand_behind [] (settled further (behind code x))
 settled_behind further code x = settled_if (further && not x.fixed) code x
+
+pub settled_as : (k : List Inlined) (i : Instance) (code code1 code2 : List FlatStmt) (fresh fresh1 fresh2 : Fresh) (further fixed : Bool) (e value : Expr) (r : Result held_expr.Expr NoMemory) →
+    behind code (emitted k i e fresh) ≡ valued code1 value fixed fresh1 →
+    IfOk r (λ v. operand_behind [] (settled further (valued code1 value fixed fresh1)) ≡ made code2 (plain_expr v) fresh2) →
+    IfOk r (λ v. operand_behind code (settled further (emitted k i e fresh)) ≡ made code2 (plain_expr v) fresh2)
+settled_as k i code code1 code2 fresh fresh1 fresh2 further fixed e value r emitted_is settles =
+    IfOk-weaker r (λ v. operand_behind [] (settled further (valued code1 value fixed fresh1)) ≡ made code2 (plain_expr v) fresh2)
+        (λ v. operand_behind code (settled further (emitted k i e fresh)) ≡ made code2 (plain_expr v) fresh2)
+        (λ v s. settled_behind further code (emitted k i e fresh) ∙ (ap (λ x. operand_behind [] (settled further x)) emitted_is ∙ s))
+        settles
+
+-- a call
+pub called_as : (k : List Inlined) (i : Instance) (code code' : List FlatStmt) (fresh fresh' : Fresh) (ty : Ty) (at function : ℕ) (args : Args) (r : Result Formed NoMemory) (g : Form) →
+    g ≡ call_form function args →
+    IfOk r (λ m. behind code ((call i ty at (inlined_at k function) (args_emitters k i args)).emit fresh) ≡ valued code' (an_expr ty at (plain_form m.form)) m.fixed fresh') →
+    IfOk r (λ m. behind code ((form_emitter k i ty at g).emit fresh) ≡ valued code' (an_expr ty at (plain_form m.form)) m.fixed fresh')
+called_as k i code code' fresh fresh' ty at function args r g is done =
+    IfOk-weaker r (λ m. behind code ((call i ty at (inlined_at k function) (args_emitters k i args)).emit fresh) ≡ valued code' (an_expr ty at (plain_form m.form)) m.fixed fresh')
+        (λ m. behind code ((form_emitter k i ty at g).emit fresh) ≡ valued code' (an_expr ty at (plain_form m.form)) m.fixed fresh')
+        (λ m e. ap (λ h. behind code ((form_emitter k i ty at h).emit fresh)) is ∙ e) done

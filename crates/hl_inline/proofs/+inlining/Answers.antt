@@ -282,12 +282,6 @@ emitting::emit_exprs-returns t c =
 
 -- ---- places
 
-pub places::emit_place-emit_parts-requires : goal.places::emit_place-emit_parts-requires
-places::emit_place-emit_parts-requires t c =
-    let k = callees_in c.args.context.now in
-    let i = instance_in c.args.context.now in
-    (search rules, c.last_call_in_parts-last.ensures k i ∙ ap (λ l. last_true (map (part_calls k i) l)) c.as_slice.ensures)
-
 pub places::emit_place-returns : goal.places::emit_place-returns
 places::emit_place-returns t c =
     let k = callees_in c.args.context.now in
@@ -301,7 +295,7 @@ places::emit_place-returns t c =
         (made (plain_code c.emit_parts.new.code) (plain_parts c.in_ok-parts.parts) (plain_fresh c.emit_parts.new.fresh))
         (c.either.ensures ∙ ap (λ b. c.args.further || b)
             (parts_flag k i c.last_call_in_parts-last.result c.as_slice.result.now 0 (c.last_call_in_parts-last.ensures k i) ∙ ap (λ ps. any_calls (parts_emitters k i (plain_parts ps))) c.as_slice.ensures))
-        c.in_ok-root.ensures c.in_ok-parts.ensures ∙
+        c.in_ok-root.ensures (c.in_ok-parts.ensures (c.last_call_in_parts-last.ensures k i ∙ ap (λ l. last_true (map (part_calls k i) l)) c.as_slice.ensures)) ∙
     ap (λ l. made (plain_code c.emit_parts.new.code) l (plain_fresh c.emit_parts.new.fresh)) (sym (location-as _ _ _ _ c.in_ok-ty.ensures refl refl)))
 
 pub places::emit_root-returns-in_ok-number-in-Variable : goal.places::emit_root-returns-in_ok-number-in-Variable
@@ -344,32 +338,30 @@ places::emit_root-returns-in_ok-index-in-Element t c =
     ap (λ r. made (plain_code c.emit_boxed.new.code) r (plain_fresh c.emit_boxed.new.fresh)) (sym (plain_root-Element _ _)))
 
 pub places::emit_parts-loop-index-init : goal.places::emit_parts-loop-index-init
-places::emit_parts-loop-index-init t c =
+places::emit_parts-loop-index-init t c last_is =
     let k = callees_in c.args.context.now in
     let i = instance_in c.args.context.now in
     ap (λ v. parts_left k i c.args.further (plain_code c.args.code.now) (map plain_part v) c.as_slice-part-items.result.now (plain_fresh c.args.fresh.now)) (sym c.new-made.ensures)
 
 pub places::emit_parts-loop-index-preserved : goal.places::emit_parts-loop-index-preserved
-places::emit_parts-loop-index-preserved t c =
+places::emit_parts-loop-index-preserved t c last_is =
     let k = callees_in c.args.context.now in
     let i = instance_in c.args.context.now in
     let xs = c.as_slice-part-items.result.now in
-    c.loop-index.invariant ∙
+    c.loop-index.invariant last_is ∙
     (parts_next k i c.args.further c.either.result c.args.last xs c.loop-index.index c.part-item.result (plain_code c.loop-index.code) (map plain_part c.loop-index.made) (plain_fresh c.loop-index.fresh)
         (made (plain_code c.emit_part.new.code) (plain_part c.in_ok-part.part) (plain_fresh c.emit_part.new.fresh))
-        c.loop-index-test.true c.part-item.is
-        (c.requires ∙ ap (λ l. last_true (map (part_calls k i) l)) (sym c.as_slice-part-items.ensures))
-        c.either.ensures c.in_ok-part.ensures ∙
+        c.loop-index-test.true c.part-item.is last_is c.either.ensures c.in_ok-part.ensures ∙
     ap (λ v. parts_left k i c.args.further (plain_code c.emit_part.new.code) v (drop (c.loop-index.index + 1) xs) (plain_fresh c.emit_part.new.fresh))
         (sym (ap (map plain_part) c.in_ok-push.ensures.ok ∙ map-append plain_part c.loop-index.made (c.in_ok-part.part ∷ []))))
 
 pub places::emit_parts-returns : goal.places::emit_parts-returns
-places::emit_parts-returns t c =
+places::emit_parts-returns t c last_is =
     let k = callees_in c.args.context.now in
     let i = instance_in c.args.context.now in
     let xs = c.as_slice-part-items.result.now in
     ap (λ ps. parts_left k i c.args.further (plain_code c.args.code.now) [] ps (plain_fresh c.args.fresh.now)) (sym c.as_slice-part-items.ensures) ∙
-    (c.loop-index.invariant ∙
+    (c.loop-index.invariant (last_is ∙ ap (λ l. last_true (map (part_calls k i) l)) (sym c.as_slice-part-items.ensures)) ∙
     parts_end k i c.args.further xs c.loop-index.index (plain_code c.loop-index.code) (map plain_part c.loop-index.made) (plain_fresh c.loop-index.fresh) c.loop-index-test.false)
 
 pub places::emit_part-returns-in-Member : goal.places::emit_part-returns-in-Member

@@ -6,7 +6,7 @@ use Rattle.hl_meaning.specs.declared.expression.PathPart.{size-PathPart}
 use Rattle.hl_meaning.specs.declared.expression.Root.{size-Root}
 use Rattle.hl_meaning.specs.declared.expression.Target.{size-Target}
 use Rattle.hl_meaning.specs.Views.{plain_expr, plain_part}
-use Rattle.hl_inline.specs.Building.{callees_in, instance_in, plain_code, plain_fresh}
+use Rattle.hl_inline.specs.Building.{callees_in, instance_in, last_true, part_calls, plain_code, plain_fresh}
 use Rattle.hl_inline.specs.Flattening.{emit_all}
 use Rattle.hl_inline.proofs.BuildingLemmas.{values_behind}
 use Rattle.hl_inline.proofs.WalkLemmas.{em, parts_left}
@@ -76,5 +76,6 @@ invariant-emitting::emit_exprs-loop-index l =
 
 abbrev pub invariant-places::emit_parts-loop-index : goal.invariant-places::emit_parts-loop-index
 invariant-places::emit_parts-loop-index l =
+    l.last ≡ last_true (map (part_calls (callees_in l.context) (instance_in l.context)) l.part-items) →
     parts_left (callees_in l.context) (instance_in l.context) l.further (plain_code l.fn.code) [] l.part-items (plain_fresh l.fn.fresh) ≡
     parts_left (callees_in l.context) (instance_in l.context) l.further (plain_code l.code) (map plain_part l.made) (drop l.index l.part-items) (plain_fresh l.fresh)

@@ -1,9 +1,9 @@
 -- What is built so far, as plain data: statements and what is free, behind which more is emitted.
-use Rattle.std.specs.Prelude.{ℕ, zero, suc, Bool, if◌then◌else◌, List, [], ◌∷◌, ◌++◌, map, Option}
+use Rattle.std.specs.Prelude.{ℕ, zero, suc, Bool, true, false, if◌then◌else◌, List, [], ◌∷◌, ◌++◌, map, Option}
 use Rattle.hl_meaning.specs.declared.expression.Expr as held_expr
 use Rattle.hl_meaning.specs.declared.expression.PathPart as held_part
 use Rattle.hl_meaning.specs.declared.program.FunctionDef.{FunctionDef}
-use Rattle.hl_meaning.specs.Trees.{Expr, PathPart, Stmt, index_part}
+use Rattle.hl_meaning.specs.Trees.{Expr, MaybeStmt, PathPart, Stmt, index_part}
 use Rattle.hl_meaning.specs.Programs.{Constant, Variable}
 use Rattle.hl_meaning.specs.Views.{plain_expr, plain_function, plain_part, plain_variable}
 use Rattle.hl_inline.specs.declared.context.Context.{Context}
@@ -11,10 +11,10 @@ use Rattle.hl_inline.specs.declared.context.Jumps.{Jumps}
 use Rattle.hl_inline.specs.declared.fresh.Fresh.{Fresh}
 use Rattle.hl_inline.specs.declared.flat.FlatStmt.{FlatStmt}
 use Rattle.hl_inline.specs.FlatTrees as plain
-use Rattle.hl_inline.specs.FlatTrees.{flat_block, flat_named}
+use Rattle.hl_inline.specs.FlatTrees.{flat_block, flat_if, flat_named, flat_run}
 use Rattle.hl_inline.specs.FlatViews.{flat_stmts_of, plain_flat_stmt}
 use Rattle.hl_inline.specs.Flattening as flattening
-use Rattle.hl_inline.specs.Flattening.{Inlined, Instance, Laid, Passed, Valued, Values, any_calls, emitter, inlined_after, jumps_of, laid, laid_then, lay, lay_body, lay_loop, lay_run_if, lay_test_if, part_emitters, with_jumps}
+use Rattle.hl_inline.specs.Flattening.{Inlined, Instance, Laid, Passed, Valued, Values, any_calls, as_alternative, as_one, emitter, inlined_after, jumps_of, laid, laid_then, lay, lay_body, lay_if, lay_loop, lay_run_if, lay_test, lay_test_if, part_emitters, with_jumps}
 use Rattle.hl_inline.specs.Operands.{first_expr}
 
 -- what is held
@@ -87,11 +87,40 @@ filled_part part es = part
 abbrev pub named_body : Inlined → Instance → flattening.Fresh → Laid
 named_body f i fresh = laid (flat_named i.exit (flat_block (flat_stmts_of (f.body i fresh).code))) (f.body i fresh).fresh
 
+-- the same in front of other statements
+abbrev pub body_before : Inlined → Instance → List plain.FlatStmt → flattening.Fresh → Laid
+body_before f i more fresh =
+    laid_to (flat_named i.exit (flat_block (flat_stmts_of (f.body i fresh).code)) ∷ more) (f.body i fresh).fresh
+
+-- a value that isn't used, behind statements; nothing is left of a call
+abbrev pub left_of : (is_call : Bool) → List plain.FlatStmt → Expr → List plain.FlatStmt
+left_of true code value = code
+left_of false code value = code ++ flat_run value ∷ []
+
+-- the branches of an `if` by the value of its condition
+abbrev pub branches_of : List Inlined → Instance → flattening.Jumps → Expr → Stmt → MaybeStmt → flattening.Fresh → Laid
+branches_of k i j value consequent alternative fresh =
+    let a = lay k i j consequent fresh in
+    let b = lay_if k i j alternative a.fresh in
+    laid (flat_if value (as_one a.code) (as_alternative b.code)) b.fresh
+
+-- a turn of a `for`, of a `while` and of a `do`
+abbrev pub turn_of : List Inlined → Instance → (cond step : Option Expr) → Stmt → flattening.Jumps → flattening.Fresh → Laid
+turn_of k i cond step body j fresh =
+    laid_then (lay_test_if k i j.break_name cond fresh) (λ fresh'.
+    laid_then (lay_body j.continue_name (lay k i j body fresh')) (λ fresh''. lay_run_if k i step fresh''))
+
+abbrev pub while_turn : List Inlined → Instance → Expr → Stmt → flattening.Jumps → flattening.Fresh → Laid
+while_turn k i cond body j fresh =
+    laid_then (lay_test k i j.break_name cond fresh) (λ fresh'. lay_body j.continue_name (lay k i j body fresh'))
+
+abbrev pub do_turn : List Inlined → Instance → Stmt → Expr → flattening.Jumps → flattening.Fresh → Laid
+do_turn k i body cond j fresh =
+    laid_then (lay_body j.continue_name (lay k i j body fresh)) (λ fresh'. lay_test k i j.break_name cond fresh')
+
 -- the turns of a `for`
 abbrev pub lay_turns : List Inlined → Instance → (cond step : Option Expr) → Stmt → flattening.Fresh → Laid
-lay_turns k i cond step body fresh =
-    lay_loop fresh.names (laid_then (lay_test_if k i fresh.names cond (with_jumps fresh)) (λ fresh'.
-    laid_then (lay_body (suc fresh.names) (lay k i (jumps_of fresh) body fresh')) (λ fresh''. lay_run_if k i step fresh'')))
+lay_turns k i cond step body fresh = lay_loop fresh.names (turn_of k i cond step body (jumps_of fresh) (with_jumps fresh))
 
 -- One more in front of some: how many there are up to the last that is true, where `behind` counts those behind it.
 abbrev pub last_with : Bool → (behind : ℕ) → ℕ

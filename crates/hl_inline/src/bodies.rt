@@ -4,17 +4,19 @@
 //! body.
 
 ghost use Rattle.std.specs.Prelude.{◌≡◌, ◌++◌, IfOk, OnOk, option_map};
-ghost use Rattle.hl_meaning.specs.Trees.{do_stmt, for_stmt, if_stmt, while_stmt};
+ghost use Rattle.hl_meaning.specs.Trees.{block_stmt, do_stmt, for_stmt, if_stmt, while_stmt};
 ghost use Rattle.hl_meaning.specs.Views.{plain_expr, plain_function, plain_maybe_stmt, plain_stmt, plain_stmts};
-ghost use Rattle.hl_inline.specs.Building.{callees_in, instance_in, laid_to, lay_turns, plain_code, plain_fresh, plain_jumps};
-ghost use Rattle.hl_inline.specs.Flattening.{Jumps, emitted, inlined, is_call, jumps_of, laid_with, lay, lay_all, lay_body, lay_if, lay_local, lay_return, lay_run, lay_run_if, lay_test, lay_test_if, set_to, with_jumps, zeros_first};
+ghost use Rattle.hl_inline.specs.Building.{branches_of, callees_in, do_turn, instance_in, laid_to, lay_turns, left_of, plain_code, plain_fresh, plain_jumps, turn_of, while_turn};
+ghost use Rattle.hl_inline.specs.Flattening.{Jumps as PlainJumps, emitted, inlined, is_call, jumps_of, laid_then, laid_with, lay, lay_all, lay_body, lay_if, lay_local, lay_return, lay_run, lay_run_if, lay_test, lay_test_if, set_to, with_jumps, zeros_first};
 
+use crate::adding::{
+    add_block, add_choice, add_leave, add_loop, add_named, add_run, add_set, add_test, add_zeros,
+};
 use crate::context::{Context, Jumps, shifted};
 use crate::early::early_variables;
 use crate::emitting::emit;
-use crate::flat::{FlatStmt, FlatStmts};
+use crate::flat::FlatStmts;
 use crate::fresh::Fresh;
-use crate::made::{as_alternative, as_one, choice, leave_unless, loop_of, named};
 use base_core::NoMemory;
 use hl_meaning::{Expr, Form, FunctionDef, Stmt, Stmts};
 use sqlite_items::Boxed;
@@ -26,11 +28,8 @@ const OUTSIDE_LOOPS: Jumps = Jumps {
 };
 
 /// A function in place. Variables that may be reached before their declaration are set to zeros first.
-///
-/// # Errors
-/// `NoMemory` where memory is refused, as in each call below.
 #[cycle(inlining)]
-pub(crate) fn lay_function(
+fn lay_function(
     context: &Context,
     function: &FunctionDef,
     fresh: &mut Fresh,
@@ -40,6 +39,23 @@ pub(crate) fn lay_function(
 {
     lay_zeros(context, function, code)?;
     lay_all(context, OUTSIDE_LOOPS, &function.body, fresh, code)
+}
+
+/// The same as statements of their own.
+///
+/// # Errors
+/// `NoMemory` where memory is refused, as in each call below.
+#[cycle(inlining)]
+pub(crate) fn laid_function(
+    context: &Context,
+    function: &FunctionDef,
+    fresh: &mut Fresh,
+) -> Result<FlatStmts, NoMemory>
+    ensures { IfOk result (λ code. (inlined (callees_in context.now) (plain_function function.now)).body (instance_in context.now) (plain_fresh fresh.old) ≡ laid_to (plain_code code) (plain_fresh fresh.new)) }
+{
+    let mut code = FlatStmts::new(context.alloc);
+    lay_function(context, function, fresh, &mut code)?;
+    Ok(code)
 }
 
 /// Sets the variables to zeros that may be reached before their declaration.
@@ -53,10 +69,7 @@ fn lay_zeros(
     let early = early_variables(context.alloc, function)?;
     for number in early.as_slice() {
         let variable = shifted(context.first, *number)?;
-        code.push(FlatStmt::Local {
-            variable,
-            init: None,
-        })?;
+        add_zeros(variable, code)?;
     }
     Ok(())
 }
@@ -78,6 +91,21 @@ fn lay_all(
     Ok(())
 }
 
+/// The same as statements of their own.
+#[cycle(inlining)]
+fn laid_all(
+    context: &Context,
+    jumps: Jumps,
+    stmts: &Stmts,
+    fresh: &mut Fresh,
+) -> Result<FlatStmts, NoMemory>
+    ensures { IfOk result (λ code. lay_all (callees_in context.now) (instance_in context.now) (plain_jumps jumps) (plain_stmts stmts.now) (plain_fresh fresh.old) ≡ laid_to (plain_code code) (plain_fresh fresh.new)) }
+{
+    let mut code = FlatStmts::new(context.alloc);
+    lay_all(context, jumps, stmts, fresh, &mut code)?;
+    Ok(code)
+}
+
 /// A statement.
 #[cycle(inlining)]
 fn lay(
@@ -90,12 +118,7 @@ fn lay(
     ensures { OnOk result (laid_with (plain_code code.old) (lay (callees_in context.now) (instance_in context.now) (plain_jumps jumps) (plain_stmt stmt.now) (plain_fresh fresh.old)) ≡ laid_to (plain_code code.new) (plain_fresh fresh.new)) }
 {
     match stmt {
-        Stmt::Block(body) => {
-            let mut inner = FlatStmts::new(context.alloc);
-            lay_all(context, jumps, body, fresh, &mut inner)?;
-            code.push(FlatStmt::Block(inner))?;
-            Ok(())
-        }
+        Stmt::Block(body) => lay_block(context, jumps, body, fresh, code),
         Stmt::Local { variable, init } => lay_local(context, *variable, init, fresh, code),
         Stmt::Run(value) => lay_run(context, value, fresh, code),
         Stmt::If { cond, yes, no } => lay_choice(context, jumps, cond, yes.get(), no, fresh, code),
@@ -107,33 +130,56 @@ fn lay(
         } => lay_for(context, jumps, init, cond, step, body.get(), fresh, code),
         Stmt::While { cond, body } => lay_while(context, cond, body.get(), fresh, code),
         Stmt::Do { body, cond } => lay_do(context, body.get(), cond, fresh, code),
-        Stmt::Break => {
-            code.push(FlatStmt::Leave(jumps.break_name))?;
-            Ok(())
-        }
-        Stmt::Continue => {
-            code.push(FlatStmt::Leave(jumps.continue_name))?;
-            Ok(())
-        }
+        Stmt::Break => add_leave(jumps.break_name, code),
+        Stmt::Continue => add_leave(jumps.continue_name, code),
         Stmt::Return(value) => lay_return(context, value, fresh, code),
     }
 }
 
-/// A statement that may be there.
+/// The same as statements of their own.
 #[cycle(inlining)]
-fn lay_if(
+fn laid(
+    context: &Context,
+    jumps: Jumps,
+    stmt: &Stmt,
+    fresh: &mut Fresh,
+) -> Result<FlatStmts, NoMemory>
+    ensures { IfOk result (λ code. lay (callees_in context.now) (instance_in context.now) (plain_jumps jumps) (plain_stmt stmt.now) (plain_fresh fresh.old) ≡ laid_to (plain_code code) (plain_fresh fresh.new)) }
+{
+    let mut code = FlatStmts::new(context.alloc);
+    lay(context, jumps, stmt, fresh, &mut code)?;
+    Ok(code)
+}
+
+/// The same of a statement that may be there.
+#[cycle(inlining)]
+fn laid_if(
     context: &Context,
     jumps: Jumps,
     stmt: &Option<Boxed<Stmt>>,
     fresh: &mut Fresh,
-    code: &mut FlatStmts,
-) -> Result<(), NoMemory>
-    ensures { OnOk result (laid_with (plain_code code.old) (lay_if (callees_in context.now) (instance_in context.now) (plain_jumps jumps) (plain_maybe_stmt stmt.now) (plain_fresh fresh.old)) ≡ laid_to (plain_code code.new) (plain_fresh fresh.new)) }
+) -> Result<FlatStmts, NoMemory>
+    ensures { IfOk result (λ code. lay_if (callees_in context.now) (instance_in context.now) (plain_jumps jumps) (plain_maybe_stmt stmt.now) (plain_fresh fresh.old) ≡ laid_to (plain_code code) (plain_fresh fresh.new)) }
 {
     match stmt {
-        Some(stmt) => lay(context, jumps, stmt.get(), fresh, code),
-        None => Ok(()),
+        Some(stmt) => laid(context, jumps, stmt.get(), fresh),
+        None => Ok(FlatStmts::new(context.alloc)),
     }
+}
+
+/// A block.
+#[cycle(inlining)]
+fn lay_block(
+    context: &Context,
+    jumps: Jumps,
+    body: &Stmts,
+    fresh: &mut Fresh,
+    code: &mut FlatStmts,
+) -> Result<(), NoMemory>
+    ensures { OnOk result (laid_with (plain_code code.old) (lay (callees_in context.now) (instance_in context.now) (plain_jumps jumps) (block_stmt (plain_stmts body.now)) (plain_fresh fresh.old)) ≡ laid_to (plain_code code.new) (plain_fresh fresh.new)) }
+{
+    let inner = laid_all(context, jumps, body, fresh)?;
+    add_block(inner, code)
 }
 
 /// The declaration of a variable.
@@ -150,13 +196,7 @@ fn lay_local(
     let variable = shifted(context.first, variable)?;
     match init {
         Some(init) => lay_set(context, variable, init, fresh, code),
-        None => {
-            code.push(FlatStmt::Local {
-                variable,
-                init: None,
-            })?;
-            Ok(())
-        }
+        None => add_zeros(variable, code),
     }
 }
 
@@ -172,11 +212,7 @@ fn lay_set(
     ensures { OnOk result (laid_with (plain_code code.old) (set_to variable (emitted (callees_in context.now) (instance_in context.now) (plain_expr value.now) (plain_fresh fresh.old))) ≡ laid_to (plain_code code.new) (plain_fresh fresh.new)) }
 {
     let emitted = emit(context, value, fresh, code)?;
-    code.push(FlatStmt::Local {
-        variable,
-        init: Some(emitted.value),
-    })?;
-    Ok(())
+    add_set(variable, emitted.value, code)
 }
 
 /// A value that isn't used is computed all the same; nothing is left of a call.
@@ -190,11 +226,17 @@ fn lay_run(
     ensures { OnOk result (laid_with (plain_code code.old) (lay_run (callees_in context.now) (instance_in context.now) (plain_expr value.now) (plain_fresh fresh.old)) ≡ laid_to (plain_code code.new) (plain_fresh fresh.new)) }
 {
     let emitted = emit(context, value, fresh, code)?;
+    add_unless_call(value, emitted.value, code)
+}
+
+/// Adds what computes a value, unless it was a call.
+fn add_unless_call(value: &Expr, left: Expr, code: &mut FlatStmts) -> Result<(), NoMemory>
+    ensures { OnOk result (plain_code code.new ≡ left_of (is_call (plain_expr value.now)) (plain_code code.old) (plain_expr left)) }
+{
     if is_call(value) {
         return Ok(());
     }
-    code.push(FlatStmt::Run(emitted.value))?;
-    Ok(())
+    add_run(left, code)
 }
 
 /// Whether an expression is a call.
@@ -233,13 +275,9 @@ fn lay_return(
     match value {
         Some(value) => {
             lay_set(context, context.result, value, fresh, code)?;
-            code.push(FlatStmt::Leave(context.exit))?;
-            Ok(())
+            add_leave(context.exit, code)
         }
-        None => {
-            code.push(FlatStmt::Leave(context.exit))?;
-            Ok(())
-        }
+        None => add_leave(context.exit, code),
     }
 }
 
@@ -257,13 +295,33 @@ fn lay_choice(
     ensures { OnOk result (laid_with (plain_code code.old) (lay (callees_in context.now) (instance_in context.now) (plain_jumps jumps) (if_stmt (plain_expr cond.now) (plain_stmt consequent.now) (plain_maybe_stmt alternative.now)) (plain_fresh fresh.old)) ≡ laid_to (plain_code code.new) (plain_fresh fresh.new)) }
 {
     let emitted = emit(context, cond, fresh, code)?;
-    let mut yes = FlatStmts::new(context.alloc);
-    lay(context, jumps, consequent, fresh, &mut yes)?;
-    let mut no = FlatStmts::new(context.alloc);
-    lay_if(context, jumps, alternative, fresh, &mut no)?;
-    let stmt = choice(context.alloc, emitted.value, yes, no)?;
-    code.push(stmt)?;
-    Ok(())
+    lay_branches(
+        context,
+        jumps,
+        emitted.value,
+        consequent,
+        alternative,
+        fresh,
+        code,
+    )
+}
+
+/// The branches of an `if` by the value of its condition.
+#[cycle(inlining)]
+fn lay_branches(
+    context: &Context,
+    jumps: Jumps,
+    cond: Expr,
+    consequent: &Stmt,
+    alternative: &Option<Boxed<Stmt>>,
+    fresh: &mut Fresh,
+    code: &mut FlatStmts,
+) -> Result<(), NoMemory>
+    ensures { OnOk result (laid_with (plain_code code.old) (branches_of (callees_in context.now) (instance_in context.now) (plain_jumps jumps) (plain_expr cond) (plain_stmt consequent.now) (plain_maybe_stmt alternative.now) (plain_fresh fresh.old)) ≡ laid_to (plain_code code.new) (plain_fresh fresh.new)) }
+{
+    let yes = laid(context, jumps, consequent, fresh)?;
+    let no = laid_if(context, jumps, alternative, fresh)?;
+    add_choice(context.alloc, cond, yes, no, code)
 }
 
 /// The names of a loop.
@@ -293,14 +351,29 @@ fn lay_for(
 ) -> Result<(), NoMemory>
     ensures { OnOk result (laid_with (plain_code code.old) (lay (callees_in context.now) (instance_in context.now) (plain_jumps jumps) (for_stmt (plain_stmts init.now) (option_map plain_expr cond.now) (option_map plain_expr step.now) (plain_stmt body.now)) (plain_fresh fresh.old)) ≡ laid_to (plain_code code.new) (plain_fresh fresh.new)) }
 {
-    let mut block = FlatStmts::new(context.alloc);
-    lay_all(context, jumps, init, fresh, &mut block)?;
-    lay_turns(context, cond, step, body, fresh, &mut block)?;
-    code.push(FlatStmt::Block(block))?;
-    Ok(())
+    let block = laid_for(context, jumps, init, cond, step, body, fresh)?;
+    add_block(block, code)
 }
 
-/// The turns of a `for`: the test, the body, and the step.
+/// What stands in the block of a `for`.
+#[cycle(inlining)]
+fn laid_for(
+    context: &Context,
+    jumps: Jumps,
+    init: &Stmts,
+    cond: &Option<Expr>,
+    step: &Option<Expr>,
+    body: &Stmt,
+    fresh: &mut Fresh,
+) -> Result<FlatStmts, NoMemory>
+    ensures { IfOk result (λ code. laid_then (lay_all (callees_in context.now) (instance_in context.now) (plain_jumps jumps) (plain_stmts init.now) (plain_fresh fresh.old)) (λ f. lay_turns (callees_in context.now) (instance_in context.now) (option_map plain_expr cond.now) (option_map plain_expr step.now) (plain_stmt body.now) f) ≡ laid_to (plain_code code) (plain_fresh fresh.new)) }
+{
+    let mut block = laid_all(context, jumps, init, fresh)?;
+    lay_turns(context, cond, step, body, fresh, &mut block)?;
+    Ok(block)
+}
+
+/// The turns of a `for`.
 #[cycle(inlining)]
 fn lay_turns(
     context: &Context,
@@ -313,16 +386,30 @@ fn lay_turns(
     ensures { OnOk result (laid_with (plain_code code.old) (lay_turns (callees_in context.now) (instance_in context.now) (option_map plain_expr cond.now) (option_map plain_expr step.now) (plain_stmt body.now) (plain_fresh fresh.old)) ≡ laid_to (plain_code code.new) (plain_fresh fresh.new)) }
 {
     let jumps = take_jumps(fresh)?;
+    let turn = laid_turn(context, jumps, cond, step, body, fresh)?;
+    add_loop(context.alloc, jumps.break_name, turn, code)
+}
+
+/// A turn of a `for`: the test, the body, and the step.
+#[cycle(inlining)]
+fn laid_turn(
+    context: &Context,
+    jumps: Jumps,
+    cond: &Option<Expr>,
+    step: &Option<Expr>,
+    body: &Stmt,
+    fresh: &mut Fresh,
+) -> Result<FlatStmts, NoMemory>
+    ensures { IfOk result (λ code. turn_of (callees_in context.now) (instance_in context.now) (option_map plain_expr cond.now) (option_map plain_expr step.now) (plain_stmt body.now) (plain_jumps jumps) (plain_fresh fresh.old) ≡ laid_to (plain_code code) (plain_fresh fresh.new)) }
+{
     let mut turn = FlatStmts::new(context.alloc);
     lay_test_if(context, jumps.break_name, cond, fresh, &mut turn)?;
     lay_body(context, jumps, body, fresh, &mut turn)?;
     lay_run_if(context, step, fresh, &mut turn)?;
-    let stmt = loop_of(context.alloc, jumps.break_name, turn)?;
-    code.push(stmt)?;
-    Ok(())
+    Ok(turn)
 }
 
-/// A `while`: in each turn the test, and the body.
+/// A `while`.
 #[cycle(inlining)]
 fn lay_while(
     context: &Context,
@@ -331,18 +418,31 @@ fn lay_while(
     fresh: &mut Fresh,
     code: &mut FlatStmts,
 ) -> Result<(), NoMemory>
-    ensures { (j : Jumps) → OnOk result (laid_with (plain_code code.old) (lay (callees_in context.now) (instance_in context.now) j (while_stmt (plain_expr cond.now) (plain_stmt body.now)) (plain_fresh fresh.old)) ≡ laid_to (plain_code code.new) (plain_fresh fresh.new)) }
+    ensures { (j : PlainJumps) → OnOk result (laid_with (plain_code code.old) (lay (callees_in context.now) (instance_in context.now) j (while_stmt (plain_expr cond.now) (plain_stmt body.now)) (plain_fresh fresh.old)) ≡ laid_to (plain_code code.new) (plain_fresh fresh.new)) }
 {
     let jumps = take_jumps(fresh)?;
+    let turn = laid_while(context, jumps, cond, body, fresh)?;
+    add_loop(context.alloc, jumps.break_name, turn, code)
+}
+
+/// A turn of a `while`: the test, and the body.
+#[cycle(inlining)]
+fn laid_while(
+    context: &Context,
+    jumps: Jumps,
+    cond: &Expr,
+    body: &Stmt,
+    fresh: &mut Fresh,
+) -> Result<FlatStmts, NoMemory>
+    ensures { IfOk result (λ code. while_turn (callees_in context.now) (instance_in context.now) (plain_expr cond.now) (plain_stmt body.now) (plain_jumps jumps) (plain_fresh fresh.old) ≡ laid_to (plain_code code) (plain_fresh fresh.new)) }
+{
     let mut turn = FlatStmts::new(context.alloc);
     lay_test(context, jumps.break_name, cond, fresh, &mut turn)?;
     lay_body(context, jumps, body, fresh, &mut turn)?;
-    let stmt = loop_of(context.alloc, jumps.break_name, turn)?;
-    code.push(stmt)?;
-    Ok(())
+    Ok(turn)
 }
 
-/// A `do`: in each turn the body, and the test.
+/// A `do`.
 #[cycle(inlining)]
 fn lay_do(
     context: &Context,
@@ -351,15 +451,28 @@ fn lay_do(
     fresh: &mut Fresh,
     code: &mut FlatStmts,
 ) -> Result<(), NoMemory>
-    ensures { (j : Jumps) → OnOk result (laid_with (plain_code code.old) (lay (callees_in context.now) (instance_in context.now) j (do_stmt (plain_stmt body.now) (plain_expr cond.now)) (plain_fresh fresh.old)) ≡ laid_to (plain_code code.new) (plain_fresh fresh.new)) }
+    ensures { (j : PlainJumps) → OnOk result (laid_with (plain_code code.old) (lay (callees_in context.now) (instance_in context.now) j (do_stmt (plain_stmt body.now) (plain_expr cond.now)) (plain_fresh fresh.old)) ≡ laid_to (plain_code code.new) (plain_fresh fresh.new)) }
 {
     let jumps = take_jumps(fresh)?;
+    let turn = laid_do(context, jumps, body, cond, fresh)?;
+    add_loop(context.alloc, jumps.break_name, turn, code)
+}
+
+/// A turn of a `do`: the body, and the test.
+#[cycle(inlining)]
+fn laid_do(
+    context: &Context,
+    jumps: Jumps,
+    body: &Stmt,
+    cond: &Expr,
+    fresh: &mut Fresh,
+) -> Result<FlatStmts, NoMemory>
+    ensures { IfOk result (λ code. do_turn (callees_in context.now) (instance_in context.now) (plain_stmt body.now) (plain_expr cond.now) (plain_jumps jumps) (plain_fresh fresh.old) ≡ laid_to (plain_code code) (plain_fresh fresh.new)) }
+{
     let mut turn = FlatStmts::new(context.alloc);
     lay_body(context, jumps, body, fresh, &mut turn)?;
     lay_test(context, jumps.break_name, cond, fresh, &mut turn)?;
-    let stmt = loop_of(context.alloc, jumps.break_name, turn)?;
-    code.push(stmt)?;
-    Ok(())
+    Ok(turn)
 }
 
 /// The body of a loop, inside what a `continue` leaves.
@@ -373,11 +486,8 @@ fn lay_body(
 ) -> Result<(), NoMemory>
     ensures { OnOk result (laid_with (plain_code code.old) (lay_body jumps.continue_name (lay (callees_in context.now) (instance_in context.now) (plain_jumps jumps) (plain_stmt body.now) (plain_fresh fresh.old))) ≡ laid_to (plain_code code.new) (plain_fresh fresh.new)) }
 {
-    let mut inner = FlatStmts::new(context.alloc);
-    lay(context, jumps, body, fresh, &mut inner)?;
-    let stmt = named(context.alloc, jumps.continue_name, inner)?;
-    code.push(stmt)?;
-    Ok(())
+    let inner = laid(context, jumps, body, fresh)?;
+    add_named(context.alloc, jumps.continue_name, inner, code)
 }
 
 /// The test of a loop: unless the condition holds, the loop is left.
@@ -392,9 +502,7 @@ fn lay_test(
     ensures { OnOk result (laid_with (plain_code code.old) (lay_test (callees_in context.now) (instance_in context.now) name (plain_expr cond.now) (plain_fresh fresh.old)) ≡ laid_to (plain_code code.new) (plain_fresh fresh.new)) }
 {
     let emitted = emit(context, cond, fresh, code)?;
-    let stmt = leave_unless(context.alloc, name, emitted.value)?;
-    code.push(stmt)?;
-    Ok(())
+    add_test(context.alloc, name, emitted.value, code)
 }
 
 /// The test of a `for`, which goes on without one.

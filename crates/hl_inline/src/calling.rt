@@ -3,16 +3,17 @@
 //! The arguments are put into the variables of the parameters. The body of the function follows, inside a name that its
 //! `return`s leave, and then the variables of `out` and `inout` parameters are written back.
 
-ghost use Rattle.std.specs.Prelude.{◌≡◌, ◌+◌, ◌∷◌, ◌++◌, [], List, IfOk, OnOk, length, option_map};
+ghost use Rattle.std.specs.Prelude.{◌≡◌, ◌+◌, ◌∷◌, ◌++◌, [], true, List, IfOk, OnOk, length, option_map};
 ghost use Rattle.hl_meaning.specs.declared.program.Parameter.{Parameter};
-ghost use Rattle.hl_meaning.specs.Trees.{an_expr};
+ghost use Rattle.hl_meaning.specs.Trees.{an_expr, read_form};
 ghost use Rattle.hl_meaning.specs.Views.{plain_arg, plain_args, plain_expr, plain_form, plain_function, plain_location, plain_ty};
-ghost use Rattle.hl_inline.specs.Building.{behind, callees_in, instance_in, laid_to, named_body, passed_behind, passed_to, plain_code, plain_fresh, valued};
+ghost use Rattle.hl_inline.specs.Building.{behind, body_before, callees_in, instance_in, laid_to, named_body, passed_behind, passed_to, plain_code, plain_fresh, valued};
 ghost use Rattle.hl_inline.specs.FlatTrees.{flat_local};
 ghost use Rattle.hl_inline.specs.FlatViews.{plain_flat_stmt};
-ghost use Rattle.hl_inline.specs.Flattening.{Argument, Inlined, Instance, arg_emitter, args_emitters, call, copy_back, inlined, inlined_at, laid_with, next_of, nothing_inlined, pass_all, result_variables, start_value, with_body, with_instance, with_variables};
+ghost use Rattle.hl_inline.specs.Flattening.{Argument, Inlined, Instance, arg_emitter, args_emitters, call, copy_back, inlined, inlined_at, laid_with, next_of, nothing_inlined, pass_all, place_of_variable, result_variables, start_value, with_body, with_instance, with_variables};
 
-use crate::bodies::lay_function;
+use crate::adding::{add, add_all, add_named_block, add_set};
+use crate::bodies::laid_function;
 use crate::context::{Context, shifted};
 use crate::copies::{copied_place, reading, reading_form};
 use crate::emitting::{Formed, emit};
@@ -70,10 +71,8 @@ fn emit_missing(
     let number = fresh.next();
     let name = fresh.take_name()?;
     add_result(alloc, ty, at, fresh)?;
-    let body = Boxed::new(alloc, FlatStmt::Block(FlatStmts::new(alloc)))?;
-    code.push(FlatStmt::Named { name, body })?;
-    let form = reading_form(alloc, ty, number)?;
-    Ok(Formed { form, fixed: true })
+    add_named_block(alloc, name, FlatStmts::new(alloc), code)?;
+    read_result(alloc, ty, number)
 }
 
 /// The arguments of a call, the body of the function, and what is written back.
@@ -90,21 +89,32 @@ fn emit_around(
 ) -> Result<Formed, NoMemory>
     ensures { IfOk result (λ made. behind (plain_code code.old) (with_body (plain_ty ty.now) at (inlined (callees_in inner.now) (plain_function callee.now)) (instance_in inner.now) (pass_all (instance_in context.now) at inner.now.first (args_emitters (callees_in context.now) (instance_in context.now) (plain_args args.now)) callee.now.parameters (plain_fresh fresh.old))) ≡ valued (plain_code code.new) (an_expr (plain_ty ty.now) at (plain_form made.form)) made.fixed (plain_fresh fresh.new)) }
 {
-    let mut copies = FlatStmts::new(context.alloc);
     let parameters = callee.parameters.as_slice();
-    pass_all(
-        context,
-        at,
-        inner.first,
-        args,
-        parameters,
-        fresh,
-        code,
-        &mut copies,
-    )?;
+    let copies = passed(context, at, inner.first, args, parameters, fresh, code)?;
+    lay_before(inner, callee, copies, fresh, code)?;
+    read_result(context.alloc, ty, inner.result)
+}
+
+/// The body of a function in front of what is written back.
+#[cycle(inlining)]
+fn lay_before(
+    inner: &Context,
+    callee: &FunctionDef,
+    copies: FlatStmts,
+    fresh: &mut Fresh,
+    code: &mut FlatStmts,
+) -> Result<(), NoMemory>
+    ensures { OnOk result (laid_with (plain_code code.old) (body_before (inlined (callees_in inner.now) (plain_function callee.now)) (instance_in inner.now) (plain_code copies) (plain_fresh fresh.old)) ≡ laid_to (plain_code code.new) (plain_fresh fresh.new)) }
+{
     lay_named(inner, callee, fresh, code)?;
-    code.append(copies)?;
-    let form = reading_form(context.alloc, ty, inner.result)?;
+    add_all(copies, code)
+}
+
+/// What reads the variable of a result. It stays as it is.
+fn read_result(alloc: Global, ty: &HlType, number: u32) -> Result<Formed, NoMemory>
+    ensures { IfOk result (λ made. (plain_form made.form ≡ read_form (place_of_variable (plain_ty ty.now) number)) × (made.fixed ≡ true)) }
+{
+    let form = reading_form(alloc, ty, number)?;
     Ok(Formed { form, fixed: true })
 }
 
@@ -151,14 +161,35 @@ pub(crate) fn lay_named(
 ) -> Result<(), NoMemory>
     ensures { OnOk result (laid_with (plain_code code.old) (named_body (inlined (callees_in inner.now) (plain_function callee.now)) (instance_in inner.now) (plain_fresh fresh.old)) ≡ laid_to (plain_code code.new) (plain_fresh fresh.new)) }
 {
-    let mut body = FlatStmts::new(inner.alloc);
-    lay_function(inner, callee, fresh, &mut body)?;
-    let body = Boxed::new(inner.alloc, FlatStmt::Block(body))?;
-    code.push(FlatStmt::Named {
-        name: inner.exit,
-        body,
-    })?;
-    Ok(())
+    let body = laid_function(inner, callee, fresh)?;
+    add_named_block(inner.alloc, inner.exit, body, code)
+}
+
+/// Arguments in order; what writes them back is given.
+#[cycle(inlining)]
+fn passed(
+    context: &Context,
+    at: usize,
+    number: u32,
+    args: &[Arg],
+    parameters: &[Parameter],
+    fresh: &mut Fresh,
+    code: &mut FlatStmts,
+) -> Result<FlatStmts, NoMemory>
+    ensures { IfOk result (λ copies. passed_behind (plain_code code.old) [] (pass_all (instance_in context.now) at number (args_emitters (callees_in context.now) (instance_in context.now) (plain_args args.now)) parameters.now (plain_fresh fresh.old)) ≡ passed_to (plain_code code.new) (plain_code copies) (plain_fresh fresh.new)) }
+{
+    let mut copies = FlatStmts::new(context.alloc);
+    pass_all(
+        context,
+        at,
+        number,
+        args,
+        parameters,
+        fresh,
+        code,
+        &mut copies,
+    )?;
+    Ok(copies)
 }
 
 /// Arguments in order, from the variable of a number on, and what writes them back.
@@ -209,11 +240,7 @@ fn pass(
     match arg {
         Arg::Value(value) => {
             let emitted = emit(context, value, fresh, code)?;
-            code.push(FlatStmt::Local {
-                variable: number,
-                init: Some(emitted.value),
-            })?;
-            Ok(())
+            add_set(number, emitted.value, code)
         }
         Arg::Place(place) => {
             let to = emit_place(context, true, place, fresh, code)?;
@@ -236,13 +263,13 @@ fn pass_place(
     ensures copies { OnOk result (plain_code copies.new ≡ plain_code copies.old ++ copy_back (plain_location to) at number ∷ []) }
 {
     let init = start_value(alloc, copying, &to, at)?;
-    code.push(FlatStmt::Local {
+    let start = FlatStmt::Local {
         variable: number,
         init,
-    })?;
+    };
+    add(start, code)?;
     let written = copy_back(alloc, to, at, number)?;
-    copies.push(written)?;
-    Ok(())
+    add(written, copies)
 }
 
 /// What the variable of a parameter starts with whose argument is a place: an `out` parameter with zeros.

@@ -1,6 +1,7 @@
 //! Programs without calls, and how a program becomes one.
 #![tactic(auto)]
 
+mod adding;
 mod bodies;
 mod calling;
 mod constants;

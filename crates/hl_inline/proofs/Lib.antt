@@ -2,6 +2,7 @@ pub mod GivenEmissions
 pub mod Weights
 pub mod LayingLemmas
 pub mod CalleeLemmas
+pub mod FormCases
 pub mod FlatPlain
 pub mod BuildingLemmas
 pub mod LastLemmas

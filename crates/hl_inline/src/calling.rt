@@ -21,7 +21,7 @@ use crate::flat::{FlatStmt, FlatStmts};
 use crate::fresh::Fresh;
 use crate::places::emit_place;
 use base_core::NoMemory;
-use hl_meaning::{Arg, Copying, Expr, Form, FunctionDef, HlType, Location, Parameter};
+use hl_meaning::{Arg, Copying, Expr, Form, FunctionDef, HlType, Location, Parameters};
 use sqlite_items::Boxed;
 use std::alloc::Global;
 
@@ -89,7 +89,7 @@ fn emit_around(
 ) -> Result<Formed, NoMemory>
     ensures { IfOk result (λ made. behind (plain_code code.old) (with_body (plain_ty ty.now) at (inlined (callees_in inner.now) (plain_function callee.now)) (instance_in inner.now) (pass_all (instance_in context.now) at inner.now.first (args_emitters (callees_in context.now) (instance_in context.now) (plain_args args.now)) callee.now.parameters (plain_fresh fresh.old))) ≡ valued (plain_code code.new) (an_expr (plain_ty ty.now) at (plain_form made.form)) made.fixed (plain_fresh fresh.new)) }
 {
-    let parameters = callee.parameters.as_slice();
+    let parameters = &callee.parameters;
     let copies = passed(context, at, inner.first, args, parameters, fresh, code)?;
     lay_before(inner, callee, copies, fresh, code)?;
     read_result(context.alloc, ty, inner.result)
@@ -172,7 +172,7 @@ fn passed(
     at: usize,
     number: u32,
     args: &[Arg],
-    parameters: &[Parameter],
+    parameters: &Parameters,
     fresh: &mut Fresh,
     code: &mut FlatStmts,
 ) -> Result<FlatStmts, NoMemory>
@@ -199,7 +199,7 @@ fn pass_all(
     at: usize,
     number: u32,
     args: &[Arg],
-    parameters: &[Parameter],
+    parameters: &Parameters,
     fresh: &mut Fresh,
     code: &mut FlatStmts,
     copies: &mut FlatStmts,
@@ -207,6 +207,7 @@ fn pass_all(
     ensures { OnOk result (passed_behind (plain_code code.old) (plain_code copies.old) (pass_all (instance_in context.now) at number (args_emitters (callees_in context.now) (instance_in context.now) (plain_args args.now)) parameters.now (plain_fresh fresh.old)) ≡ passed_to (plain_code code.new) (plain_code copies.new) (plain_fresh fresh.new)) }
 {
     let count = args.len().min(parameters.len());
+    let parameters = parameters.as_slice();
     for index in 0..count {
         let variable = shifted(number, index as u32)?;
         pass(

@@ -1,3 +1,4 @@
+pub mod EntryLemmas
 pub mod GivenEmissions
 pub mod Weights
 pub mod LayingLemmas

@@ -9,3 +9,4 @@ pub mod Marking
 pub mod Flattening
 pub mod Building
 pub mod Keeps
+pub mod HeldFlat

@@ -1,5 +1,4 @@
 pub mod GivenEmissions
-pub mod InlinedLemmas
 pub mod Weights
 pub mod LayingLemmas
 pub mod CalleeLemmas

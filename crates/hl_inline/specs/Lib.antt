@@ -10,3 +10,4 @@ pub mod Flattening
 pub mod Building
 pub mod Entering
 pub mod Keeps
+pub mod HeldFlat

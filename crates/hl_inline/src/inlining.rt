@@ -1,13 +1,18 @@
 //! Programs become programs without calls.
 
 ghost use Rattle.std.specs.Prelude.{◌≡◌, ◌≤◌, IfOk};
+ghost use Rattle.lane_core.specs.SameLane.{SameLane};
 ghost use Rattle.hl_meaning.specs.Held.{plain_program};
 ghost use Rattle.hl_meaning.specs.Sums.{variable_words};
 ghost use Rattle.hl_meaning.specs.Views.{plain_function};
+ghost use Rattle.hl_source.specs.SourceLane.{source_lane};
 ghost use Rattle.hl_inline.specs.Building.{inlined_all, laid_to, named_body, plain_code, plain_fresh};
-ghost use Rattle.hl_inline.specs.Entering.{entry_before, entry_behind, plain_flat, plain_parts};
+ghost use Rattle.hl_inline.specs.Entering.{entry_before, entry_behind, plain_parts};
+ghost use Rattle.hl_inline.specs.FlatLane.{flat_lane};
 ghost use Rattle.hl_inline.specs.FlatWellFormed.{most_shared_words};
 ghost use Rattle.hl_inline.specs.Flattening.{flattened, inlined, laid_with};
+ghost use Rattle.hl_inline.specs.HeldFlat.{plain_flat};
+ghost use Rattle.hl_inline.specs.Keeps.{Keeps};
 
 use crate::calling::lay_named;
 use crate::constants::set_constants;
@@ -32,10 +37,20 @@ struct Parts {
 }
 
 /// The program without calls. Each call is replaced by the body of its function, with variables and names of its own.
+/// It has the structs, buffers, groupshared variables and threads of the program, and each lane runs as it does there.
 ///
 /// # Errors
 /// `NoMemory` where memory is refused, and where more variables or names are needed than there are numbers.
 pub fn inline(alloc: Global, program: &Program) -> Result<Flat, NoMemory>
+    requires { variable_words (plain_program program.now).structs (plain_program program.now).shared ≤ most_shared_words }
+    ensures kept { IfOk result (λ flat. Keeps (plain_program program.now) (plain_flat flat)) }
+    ensures lane { IfOk result (λ flat. SameLane (source_lane (plain_program program.now)) (flat_lane (plain_flat flat))) }
+{
+    without_calls(alloc, program)
+}
+
+/// What the program becomes by its definition.
+fn without_calls(alloc: Global, program: &Program) -> Result<Flat, NoMemory>
     requires { variable_words (plain_program program.now).structs (plain_program program.now).shared ≤ most_shared_words }
     ensures { IfOk result (λ flat. plain_flat flat ≡ flattened (plain_program program.now)) }
 {

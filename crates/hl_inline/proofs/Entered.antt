@@ -1,10 +1,10 @@
 -- The program without calls around the body of its entry.
-use Rattle.std.proofs.Common.{◌≡◌, ◌∙◌, ap, sym, ℕ, zero, suc, ◌+◌, ◌<◌, ◌≤◌, ◌⊎◌, inl, inr, subst, List, [], ◌∷◌, ◌++◌, append_assoc, get_or, length, length-append, map, take, Some}
+use Rattle.std.proofs.Common.{◌≡◌, ◌∙◌, ap, sym, ℕ, ◌+◌, ◌<◌, ◌≤◌, ◌⊎◌, inl, inr, subst, List, [], ◌∷◌, ◌++◌, append_assoc, get_or, length, length-append, map, take}
 use Rattle.std.specs.Prelude.{slice_get}
 use Rattle.std.proofs.Math.Logic.{∥∥₁_elim}
 use Rattle.std.proofs.Props.{props}
 use Rattle.std.proofs.lemmas.Bool.{cases_lt}
-use Rattle.std.proofs.lemmas.List.{length-map, take-map}
+use Rattle.std.proofs.lemmas.List.{length-map}
 use Rattle.std.proofs.lemmas.Option.{slice_get_past}
 use Rattle.hl_meaning.specs.declared.program.FunctionDef.{FunctionDef as HeldFunction}
 use Rattle.hl_meaning.specs.Programs.{FunctionDef, Program, Resource, StructDef, Variable}
@@ -14,7 +14,7 @@ use Rattle.hl_inline.specs.Building.{inlined_all, laid_to, named_body}
 use Rattle.hl_inline.specs.Entering.{entry_before, entry_behind}
 use Rattle.hl_inline.specs.FlatTrees.{Flat, FlatStmt, flat_block, flat_named}
 use Rattle.hl_inline.specs.FlatViews.{flat_stmts_of}
-use Rattle.hl_inline.specs.Flattening.{Fresh, Inlined, Instance, Laid, entry_body, entry_fresh, entry_instance, entry_of, flat_around, flattened, inlined, inlined_after, inlined_at, laid_with, next_of, set_constants, set_inputs}
+use Rattle.hl_inline.specs.Flattening.{Fresh, Inlined, Laid, entry_body, entry_fresh, entry_instance, entry_of, flat_around, flattened, inlined, inlined_at, laid_with, next_of, set_constants, set_inputs}
 use Rattle.hl_inline.proofs.CalleeLemmas.{callee_found}
 
 -- the code of the entry, behind what is set first

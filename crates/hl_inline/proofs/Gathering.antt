@@ -1,6 +1,6 @@
 -- Lists that are gone through from the front: what was made so far, and what the rest makes.
 use Rattle.std.proofs.Common.{◌≡◌, ◌∙◌, ap, sym, ℕ, zero, suc, ◌+◌, ◌<◌, ◌≤◌, List, [], ◌∷◌, ◌++◌, append-nil, append_assoc, drop, get_or, length, map, suc-add, take}
-use Rattle.std.proofs.lemmas.List.{drop_all, drop_more, map-append, map_more, take_all}
+use Rattle.std.proofs.lemmas.List.{drop_more, map-append, map_more, take_all}
 use Rattle.hl_meaning.specs.declared.ty.Kind.{Kind}
 use Rattle.hl_meaning.specs.Layout.{repeated}
 

@@ -1,5 +1,5 @@
 -- Variables and statements that are added one after another.
-use Rattle.std.proofs.Common.{◌≡◌, ◌∙◌, refl, ap, sym, ℕ, suc, ◌+◌, ◌<◌, ◌≤◌, List, [], ◌∷◌, ◌++◌, Option, None, Some, add-one, append-nil, append_assoc, ◌⊎◌, inl, inr, arith, drop, get_or, length, map, min, take}
+use Rattle.std.proofs.Common.{◌≡◌, ◌∙◌, refl, ap, sym, ℕ, ◌+◌, ◌<◌, ◌≤◌, List, [], ◌∷◌, ◌++◌, Option, None, Some, add-one, append-nil, append_assoc, ◌⊎◌, inl, inr, arith, drop, get_or, length, map, min, take}
 use Rattle.std.proofs.lemmas.Bool.{cases_lt}
 use Rattle.std.proofs.lemmas.List.{drop_all, drop_more, map-append, take_all}
 use Rattle.hl_meaning.specs.declared.program.Constant.{Constant as HeldConstant}

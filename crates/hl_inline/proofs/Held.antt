@@ -1,11 +1,10 @@
 -- Whether calls stand among operands.
-use Rattle.std.proofs.Common.{◌≡◌, ◌∙◌, refl, ap, sym, ℕ, ◌+◌, ◌<◌, ◌||◌, Bool, false, List, [], ◌∷◌, ◌++◌, arith, get_or, length, ltb, map, take}
+use Rattle.std.proofs.Common.{◌≡◌, ◌∙◌, refl, ap, sym, ℕ, ◌+◌, ◌<◌, ◌||◌, Bool, List, [], ◌∷◌, ◌++◌, arith, get_or, length, ltb, map, take}
 use Rattle.std.proofs.lemmas.List.{length-map, length-take}
 use Rattle.hl_meaning.specs.declared.expression.Expr.{Expr}
 use Rattle.hl_meaning.specs.declared.expression.PathPart.{PathPart}
-use Rattle.hl_meaning.specs.declared.expression.Root.{Root}
 use Rattle.hl_meaning.specs.Trees as plain
-use Rattle.hl_meaning.specs.Views.{plain_expr, plain_exprs, plain_form, plain_part, plain_parts, plain_ty}
+use Rattle.hl_meaning.specs.Views.{plain_exprs, plain_form, plain_part, plain_parts, plain_ty}
 use Rattle.hl_inline.specs.Building.{expr_calls, last_true, part_calls}
 use Rattle.hl_inline.specs.Flattening.{Emitter, Inlined, Instance, any_calls, emitter, exprs_emitters, form_emitter, part_emitters, parts_emitters}
 use Rattle.hl_inline.proofs.Flags.{any-append, or-false}

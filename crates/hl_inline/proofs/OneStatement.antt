@@ -1,10 +1,10 @@
 -- Statements made of their parts.
-use Rattle.std.proofs.Common.{◌≡◌, ◌≢◌, ◌∙◌, refl, ap, sym, ◌+◌, List, [], ◌∷◌, ◌++◌, arith, length, map}
+use Rattle.std.proofs.Common.{◌≡◌, ◌≢◌, refl, ap, sym, List, [], ◌∷◌, ◌++◌, arith, length}
 use Rattle.std.proofs.lemmas.List.{length-append}
 use Rattle.hl_inline.specs.declared.flat.FlatStmt.{FlatStmt}
 use Rattle.hl_inline.specs.declared.flat.FlatStmt.TheVariants.{Block}
 use Rattle.hl_inline.specs.Building.{plain_code}
-use Rattle.hl_inline.specs.FlatTrees.{MaybeFlatStmt, no_flat_stmt, some_flat_stmt}
+use Rattle.hl_inline.specs.FlatTrees.{no_flat_stmt, some_flat_stmt}
 use Rattle.hl_inline.specs.FlatViews.{plain_flat_stmt}
 use Rattle.hl_inline.specs.Flattening.{as_alternative, as_one}
 use Rattle.hl_inline.proofs.FlatPlain.{plain_flat_stmt-Block}

@@ -1,6 +1,6 @@
 -- The variables that are reached early, found statement by statement.
-use Rattle.std.proofs.Common.{◌≡◌, ◌≢◌, ◌∙◌, refl, ap, sym, ℕ, zero, suc, ◌+◌, ◌<◌, ◌≤◌, ◌⊎◌, inl, inr, ◌||◌, Bool, false, true, if◌then◌else◌, List, [], ◌∷◌, ◌++◌, append-nil, arith, drop, get_or, length, map, replicate, suc-add, take, Vec}
-use Rattle.std.specs.Prelude.{◌==◌, cond, filter, Option, None, Some}
+use Rattle.std.proofs.Common.{◌≡◌, ◌∙◌, refl, ap, sym, ℕ, zero, suc, ◌+◌, ◌<◌, ◌≤◌, ◌⊎◌, inl, inr, ◌||◌, Bool, false, true, if◌then◌else◌, List, [], ◌∷◌, ◌++◌, append-nil, arith, drop, get_or, length, map, replicate, suc-add, take, Vec}
+use Rattle.std.specs.Prelude.{◌==◌, cond, filter, None, Some}
 use Rattle.std.proofs.lemmas.Bool.{cases_eq, eq-eqb, eqb-true}
 use Rattle.std.proofs.lemmas.List.{get_or-replicate, get_or-set_other, get_or-set_same, length-replicate, length-set, replicate_more, with_items_is}
 use Rattle.std.proofs.lemmas.List.FromFn.{map-range_with_len_more}
@@ -108,7 +108,7 @@ undeclared-turn xs i x now end known marks within is e kept ends =
 -- one more statement that is gone through
 pub reached-turn : (xs : List HeldStmt) (i : ℕ) (x : HeldStmt) (between end : Marking) (known : List ℕ) (marks : List Bool) → i < length xs → x ≡ get_or xs i x
     → between ≡ marking (declared_in known (plain_stmts (take i xs)))
-        (mark_all (early (declared_in known (plain_stmts (take i xs))) (plain_stmt x)) (mark_all (early_in known (plain_stmts (take i xs))) marks))
+    (mark_all (early (declared_in known (plain_stmts (take i xs))) (plain_stmt x)) (mark_all (early_in known (plain_stmts (take i xs))) marks))
     → end.marks ≡ between.marks
     → ((size : ℕ) → (k : List ℕ) → between.counts ≡ counts_of size k → end.counts ≡ counts_of size (declared_by k (plain_stmt x)))
     → end ≡ marking (declared_in known (plain_stmts (take (i + 1) xs))) (mark_all (early_in known (plain_stmts (take (i + 1) xs))) marks)

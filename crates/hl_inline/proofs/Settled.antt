@@ -3,7 +3,6 @@ use Rattle.std.proofs.Common.{◌≡◌, ◌∙◌, refl, ap, sym, ℕ, Bool, fa
 use Rattle.std.specs.Prelude.{not}
 use Rattle.hl_meaning.specs.declared.expression.Expr as held
 use Rattle.hl_meaning.specs.Trees.{Expr, type_of}
-use Rattle.hl_meaning.specs.Types.{Ty}
 use Rattle.hl_meaning.specs.Views.{plain_expr, plain_ty}
 use Rattle.hl_meaning.proofs.Plain.{plain_expr-is}
 use Rattle.hl_inline.specs.Building.{Made, made, operand_behind, valued}

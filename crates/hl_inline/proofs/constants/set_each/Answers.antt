@@ -1,4 +1,4 @@
-use Rattle.std.proofs.Common.{◌∙◌, ◌++◌, Some, ap, map, sym}
+use Rattle.std.proofs.Common.{◌∙◌, ◌++◌, Some, ap, map}
 use Rattle.hl_meaning.specs.Views.{plain_constant}
 use Rattle.hl_inline.specs.Building.{plain_code}
 use Rattle.hl_inline.specs.FlatTrees.{flat_local}

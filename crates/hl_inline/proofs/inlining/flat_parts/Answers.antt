@@ -1,4 +1,4 @@
-use Rattle.std.proofs.Common.{◌≡◌, ◌∙◌, ◌<◌, ◌++◌, ap, arith, length, length-take, map, sym, take}
+use Rattle.std.proofs.Common.{◌≡◌, ◌∙◌, ◌<◌, ap, arith, length, length-take, map, sym, take}
 use Rattle.std.proofs.lemmas.List.{length-map}
 use Rattle.hl_meaning.specs.Held.{plain_program}
 use Rattle.hl_meaning.specs.Views.{plain_constant, plain_function, plain_resource, plain_struct, plain_variable}

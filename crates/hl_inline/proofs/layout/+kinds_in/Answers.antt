@@ -1,4 +1,4 @@
-use Rattle.std.proofs.Common.{◌≡◌, ◌∙◌, sym, ap, replicate}
+use Rattle.std.proofs.Common.{◌∙◌, sym, ap}
 use Rattle.std.proofs.lemmas.Result.{IfOk-weaker}
 use Rattle.hl_meaning.specs.Layout.{kinds_in, repeated}
 use Rattle.hl_meaning.specs.Views.{plain_ty}

@@ -1,4 +1,4 @@
-use Rattle.std.proofs.Common.{◌≡◌, ◌∙◌, ◌∷◌, ◌++◌, [], ap, sym, drop, map, ◌+◌, append-nil, append_assoc}
+use Rattle.std.proofs.Common.{◌∙◌, ◌++◌, ap, sym, drop, map, ◌+◌, append-nil, append_assoc}
 use Rattle.std.proofs.lemmas.List.{drop_all}
 use Rattle.hl_meaning.specs.Layout.{kinds_in, member_kinds}
 use Rattle.hl_meaning.specs.Views.{plain_member, plain_ty}

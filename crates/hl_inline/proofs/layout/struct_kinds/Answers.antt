@@ -1,4 +1,4 @@
-use Rattle.std.proofs.Common.{◌≡◌, ◌∙◌, ◌∷◌, ◌++◌, [], ap, sym, drop, map, ◌+◌}
+use Rattle.std.proofs.Common.{◌∙◌, ◌∷◌, ◌++◌, [], ap, sym, drop, map, ◌+◌}
 use Rattle.std.proofs.lemmas.List.{drop_all}
 use Rattle.hl_meaning.specs.Layout.{member_kinds, struct_kinds_after}
 use Rattle.hl_meaning.specs.Views.{plain_member, plain_structs}

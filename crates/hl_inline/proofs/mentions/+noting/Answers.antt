@@ -1,7 +1,7 @@
-use Rattle.std.proofs.Common.{◌≡◌, ◌∙◌, ◌++◌, ◌∷◌, [], ap, refl, sym}
+use Rattle.std.proofs.Common.{◌∙◌, ◌++◌, ◌∷◌, [], ap, refl, sym}
 use Rattle.hl_meaning.specs.Views.{plain_arg, plain_args, plain_expr, plain_exprs, plain_form, plain_location, plain_maybe_expr, plain_maybe_location, plain_part, plain_parts, plain_root, plain_target}
 use Rattle.hl_meaning.proofs.Plain.{plain_arg-Place, plain_arg-Value, plain_form-Atomic, plain_form-Binary, plain_form-Build, plain_form-Call, plain_form-Choose, plain_form-Convert, plain_form-Intrinsic, plain_form-Literal, plain_form-Method, plain_form-Pick, plain_form-Read, plain_form-Unary, plain_form-Write, plain_location-is, plain_part-Index, plain_part-Member, plain_part-Swizzle, plain_root-Constant, plain_root-Element, plain_root-Shared, plain_target-Bytes, plain_target-Place}
-use Rattle.hl_inline.specs.IndexedVariables.{arg_mentions, args_mentions, call_mention, expr_if_mentions, expr_mentions, exprs_mentions, form_mentions, location_if_mentions, location_mentions, part_mentions, parts_mentions, place_mention, root_mentions, target_mentions}
+use Rattle.hl_inline.specs.IndexedVariables.{arg_mentions, args_mentions, call_mention, expr_if_mentions, expr_mentions, exprs_mentions, location_if_mentions, location_mentions, part_mentions, parts_mentions, place_mention, root_mentions, target_mentions}
 use Rattle.hl_inline.specs.Marking.{mark_text}
 use Rattle.hl_inline.proofs.GivenForms.{root-variable}
 use Rattle.hl_inline.proofs.Marks.{form-text, mark_text-append, text-end, text-next, text-then}

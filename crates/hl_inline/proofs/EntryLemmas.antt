@@ -74,3 +74,11 @@ flattened_with p = ap (λ code. record {
     body = flat_stmts_of code;
   }) (sym (append_assoc (set_constants p.structs 0 p.constants) (set_inputs (length p.constants) (entry_of p).parameters)
     (flat_named 0 (flat_block (flat_stmts_of ((entry_of p).body (entry_instance p (entry_of p)) (entry_fresh p (entry_of p))).code)) ∷ [])))
+
+pub flat_is : (p : Program) (structs : List StructDef) (resources : List Resource) (shared : List Variable) (y : Laid) →
+    structs ≡ p.structs → resources ≡ p.resources → shared ≡ p.shared → entry_code p ≡ y → flat_with structs resources shared p.threads y ≡ flattened p
+flat_is p structs resources shared y structs_are resources_are shared_are code_is =
+    ap (λ s. flat_with s resources shared p.threads y) structs_are ∙
+    (ap (λ r. flat_with p.structs r shared p.threads y) resources_are ∙
+    (ap (λ v. flat_with p.structs p.resources v p.threads y) shared_are ∙
+    (ap (flat_with p.structs p.resources p.shared p.threads) (sym code_is) ∙ sym (flattened_with p))))

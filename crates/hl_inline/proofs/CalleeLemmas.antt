@@ -1,16 +1,21 @@
 -- The functions that may be called, and what they weigh.
-use Rattle.std.proofs.Common.{◌≡◌, ◌∙◌, refl, sym, ap, ℕ, zero, suc, ◌+◌, ◌<◌, ◌≤◌, List, [], ◌∷◌, ◌++◌, length, length-append, map, take, get_or, Option, Some, arith}
-use Rattle.std.specs.Prelude.{slice_get, unwrap_or}
+use Rattle.std.proofs.Common.{◌≡◌, ◌∙◌, refl, sym, ap, ℕ, zero, suc, ◌+◌, ◌<◌, ◌≤◌, List, [], ◌∷◌, ◌++◌, length, length-append, map, take, get_or, Option, Some, Result, Ok, Err, arith}
+use Rattle.std.specs.Prelude.{IfOk, slice_get, unwrap_or}
 use Rattle.std.proofs.lemmas.List.{length-map}
 use Rattle.std.proofs.lemmas.List.Sums.{get_or-le-sum_by, sum_by-take-le, sum_by_more}
 use Rattle.std.proofs.lemmas.Option.{slice_get_past}
 use Rattle.hl_meaning.specs.declared.program.FunctionDef as held
 use Rattle.hl_meaning.specs.declared.statement.Stmt.{Stmt}
 use Rattle.hl_meaning.specs.Programs.{FunctionDef}
-use Rattle.hl_meaning.specs.Views.{plain_function}
-use Rattle.hl_inline.specs.Flattening.{Inlined, inlined, inlined_after, inlined_at, nothing_inlined}
-use Rattle.hl_inline.specs.Building.{inlined_all}
+use Rattle.hl_meaning.specs.Types.{Ty}
+use Rattle.hl_meaning.specs.Views.{plain_function, plain_variable}
+use Rattle.hl_inline.specs.Flattening.{Argument, Fresh, Inlined, Instance, Valued, call, inlined, inlined_after, inlined_at, instance_of, next_of, nothing_inlined, pass_all, with_body, with_instance}
+use Rattle.hl_inline.specs.FlatTrees.{FlatStmt}
+use Rattle.hl_inline.specs.Building.{behind, inlined_all}
 use Rattle.hl_inline.proofs.Weights.{function_weight, stmt_weight, stmts_weight, weight_of}
+
+abbrev pub instance : (first result exit : ℕ) → Instance
+instance first result exit = record { first = first; result = result; exit = exit }
 
 -- ---- the function of a number
 
@@ -55,6 +60,34 @@ pub callee_missing : (fs : List held.FunctionDef) (n : ℕ) → length fs ≤ n 
 callee_missing fs n past =
     ap (λ o. unwrap_or o nothing_inlined)
         (slice_get_past (inlined_all fs) n (omega (arith, length_after [] (map plain_function fs), length-map fs plain_function)))
+
+-- ---- calls
+
+-- where a function stands that is called
+pub stands_at : (k : List Inlined) (f : held.FunctionDef) (fresh : Fresh) (first result exit : ℕ) → first ≡ next_of fresh → result ≡ next_of fresh + length f.variables → exit ≡ fresh.names →
+    instance first result exit ≡ instance_of (inlined k (plain_function f)) fresh
+stands_at k f fresh first result exit a b d =
+    ap (λ n. instance n result exit) a ∙
+    (ap (λ n. instance (next_of fresh) n exit) (b ∙ ap (λ n. next_of fresh + n) (sym (length-map f.variables plain_variable))) ∙
+    ap (λ n. instance (next_of fresh) (next_of fresh + length (map plain_variable f.variables)) n) d)
+
+pub called : {A E : Type 0} (r : Result A E) (value : A → Valued) (code : List FlatStmt) (ty : Ty) (at : ℕ) (i : Instance) (args : List Argument) (fresh : Fresh) (g f : Inlined) (inner : Instance) (now : Fresh)
+    → g ≡ f → inner ≡ instance_of f fresh → now ≡ with_instance f ty at fresh
+    → IfOk r (λ made. behind code (with_body ty at f inner (pass_all i at inner.first args f.parameters now)) ≡ value made)
+    → IfOk r (λ made. behind code ((call i ty at g args).emit fresh) ≡ value made)
+called (Ok made) value code ty at i args fresh g f inner now found stands grown done =
+    ap (λ (g : Inlined). behind code ((call i ty at g args).emit fresh)) found ∙
+    (ap (λ (j : Instance). behind code (with_body ty at f j (pass_all i at j.first args f.parameters (with_instance f ty at fresh)))) (sym stands) ∙
+    (ap (λ (h : Fresh). behind code (with_body ty at f inner (pass_all i at inner.first args f.parameters h))) (sym grown) ∙ done))
+called (Err e) value code ty at i args fresh g f inner now found stands grown done = done
+
+pub called_missing : {A E : Type 0} (r : Result A E) (value : A → Valued) (code : List FlatStmt) (ty : Ty) (at : ℕ) (i : Instance) (args : List Argument) (fresh : Fresh) (g : Inlined)
+    → g ≡ nothing_inlined
+    → IfOk r (λ made. (i : Instance) → (args : List Argument) → behind code ((call i ty at nothing_inlined args).emit fresh) ≡ value made)
+    → IfOk r (λ made. behind code ((call i ty at g args).emit fresh) ≡ value made)
+called_missing (Ok made) value code ty at i args fresh g missing done =
+    ap (λ (g : Inlined). behind code ((call i ty at g args).emit fresh)) missing ∙ done i args
+called_missing (Err e) value code ty at i args fresh g missing done = done
 
 -- ---- weights
 

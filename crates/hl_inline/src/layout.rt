@@ -30,11 +30,7 @@ pub(crate) fn struct_kinds(
 }
 
 /// The kinds of the words of members, given those of each struct.
-fn member_kinds(
-    alloc: Global,
-    structs: &[Kinds],
-    members: &[Member],
-) -> Result<Kinds, NoMemory>
+fn member_kinds(alloc: Global, structs: &[Kinds], members: &[Member]) -> Result<Kinds, NoMemory>
     ensures { IfOk result (λ kinds. kinds ≡ member_kinds structs.now (map plain_member members.now)) }
 {
     let mut kinds = Sequence::new(alloc);

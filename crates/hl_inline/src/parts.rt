@@ -62,10 +62,7 @@ fn copied_member(alloc: Global, member: &Member) -> Result<Member, NoMemory>
 }
 
 /// A copy of buffers.
-pub(crate) fn copied_resources(
-    alloc: Global,
-    resources: &Resources,
-) -> Result<Resources, NoMemory>
+pub(crate) fn copied_resources(alloc: Global, resources: &Resources) -> Result<Resources, NoMemory>
     ensures { IfOk result (λ copies. map plain_resource copies ≡ map plain_resource resources.now) }
 {
     let mut copies = Resources::new(alloc);
@@ -95,10 +92,7 @@ fn copied_resource(alloc: Global, resource: &Resource) -> Result<Resource, NoMem
 }
 
 /// A copy of variables.
-pub(crate) fn copied_variables(
-    alloc: Global,
-    variables: &Variables,
-) -> Result<Variables, NoMemory>
+pub(crate) fn copied_variables(alloc: Global, variables: &Variables) -> Result<Variables, NoMemory>
     ensures { IfOk result (λ copies. map plain_variable copies ≡ map plain_variable variables.now) }
 {
     let mut copies = Variables::new(alloc);

@@ -1,10 +1,13 @@
-//! Programs whose form without calls is known by hand.
+//! Functions whose form without calls is known by hand.
 
-use crate::{Flat, FlatStmt, inline};
+use crate::calling::lay_named;
+use crate::context::Context;
+use crate::flat::{FlatStmt, FlatStmts};
+use crate::fresh::Fresh;
 use base_core::{NoMemory, Sequence};
 use hl_meaning::{
-    Arg, Args, Copying, Expr, Form, FunctionDef, HlType, Kind, Location, Parameter, Program, Root,
-    Stmt, Stmts, Variable,
+    Arg, Args, Copying, Expr, Form, FunctionDef, HlType, Kind, Location, Parameter, Root, Stmt,
+    Stmts, Variable,
 };
 use sqlite_items::{Boxed, Items};
 use std::alloc::Global;
@@ -53,8 +56,8 @@ fn variable(alloc: Global) -> Variable {
     }
 }
 
-/// A function with a parameter that gives the sum of it and 1, and an entry with one variable and this body.
-fn program(alloc: Global, body: Stmts) -> Result<Program, NoMemory> {
+/// A function with a parameter, which gives the sum of it and 1.
+fn successor(alloc: Global) -> Result<FunctionDef, NoMemory> {
     let mut parameters = Sequence::new(alloc);
     parameters.push(Parameter {
         variable: 0,
@@ -63,40 +66,66 @@ fn program(alloc: Global, body: Stmts) -> Result<Program, NoMemory> {
     })?;
     let mut variables = Sequence::new(alloc);
     variables.push(variable(alloc))?;
-    let mut inner = Items::new(alloc);
+    let mut body = Items::new(alloc);
     let sum = plus(alloc, read(alloc, 0), uint(Form::Literal(1)))?;
-    inner.push(Stmt::Return(Some(sum)))?;
-    let mut functions = Sequence::new(alloc);
-    functions.push(FunctionDef {
+    body.push(Stmt::Return(Some(sum)))?;
+    Ok(FunctionDef {
         name: Sequence::new(alloc),
         result: HlType::Scalar(Kind::Uint),
         parameters,
         variables,
-        body: inner,
-    })?;
+        body,
+    })
+}
+
+/// A function with one variable, which gives nothing.
+fn caller(alloc: Global, body: Stmts) -> Result<FunctionDef, NoMemory> {
     let mut variables = Sequence::new(alloc);
     variables.push(variable(alloc))?;
-    functions.push(FunctionDef {
+    Ok(FunctionDef {
         name: Sequence::new(alloc),
         result: HlType::Void,
         parameters: Sequence::new(alloc),
         variables,
         body,
-    })?;
-    Ok(Program {
-        structs: Sequence::new(alloc),
-        resources: Sequence::new(alloc),
-        shared: Sequence::new(alloc),
-        constants: Sequence::new(alloc),
-        functions,
-        entry: 1,
-        threads: [1, 1, 1],
     })
 }
 
-/// The statements of the entry's body.
-fn body_of(flat: &Flat) -> Option<&[FlatStmt]> {
-    match flat.body.as_slice() {
+/// What becomes of a function with this body, and how many variables there are then.
+#[derive(Drop)]
+struct Laid {
+    code: FlatStmts,
+    variables: usize,
+}
+
+/// Lays a function that may call the other one.
+fn laid(alloc: Global, body: Stmts) -> Result<Laid, NoMemory> {
+    let mut callees = Vec::new(alloc);
+    callees.push(successor(alloc)?)?;
+    let function = caller(alloc, body)?;
+    let mut fresh = Fresh {
+        variables: Sequence::new(alloc),
+        names: 1,
+    };
+    fresh.add_copies(alloc, function.variables.as_slice())?;
+    let context = Context {
+        alloc,
+        functions: callees.as_slice(),
+        first: 0,
+        result: fresh.next(),
+        exit: 0,
+    };
+    let mut code = FlatStmts::new(alloc);
+    lay_named(&context, &function, &mut fresh, &mut code)?;
+    Ok(Laid {
+        code,
+        variables: fresh.variables.len(),
+    })
+}
+
+/// The statements of the body.
+fn body_of(laid: &Laid) -> Option<&[FlatStmt]> {
+    match laid.code.as_slice() {
         [FlatStmt::Named { name: 0, body }] => match body.get() {
             FlatStmt::Block(stmts) => Some(stmts.as_slice()),
             _ => None,
@@ -118,10 +147,9 @@ fn a_function_that_is_called_twice_stands_twice(rt: HostRuntime) -> Result<(), F
         variable: 0,
         init: Some(sum),
     })?;
-    let program = program(alloc, body)?;
-    let flat = inline(alloc, &program)?;
-    assert_eq!(rt; flat.variables.len(), 5);
-    match body_of(&flat) {
+    let laid = laid(alloc, body)?;
+    assert_eq!(rt; laid.variables, 5);
+    match body_of(&laid) {
         Some(
             [
                 FlatStmt::Local { variable: 1, .. },
@@ -144,10 +172,9 @@ fn a_call_in_a_condition_stands_in_the_loop(rt: HostRuntime) -> Result<(), Fail>
         cond: call(alloc, read(alloc, 0))?,
         body: Boxed::new(alloc, Stmt::Break)?,
     })?;
-    let program = program(alloc, body)?;
-    let flat = inline(alloc, &program)?;
-    assert_eq!(rt; flat.variables.len(), 3);
-    let turn = match body_of(&flat) {
+    let laid = laid(alloc, body)?;
+    assert_eq!(rt; laid.variables, 3);
+    let turn = match body_of(&laid) {
         Some(
             [
                 FlatStmt::Local {
@@ -185,10 +212,9 @@ fn a_call_in_an_argument_comes_first(rt: HostRuntime) -> Result<(), Fail> {
     let mut body = Items::new(alloc);
     let inner = call(alloc, uint(Form::Literal(5)))?;
     body.push(Stmt::Run(call(alloc, inner)?))?;
-    let program = program(alloc, body)?;
-    let flat = inline(alloc, &program)?;
-    assert_eq!(rt; flat.variables.len(), 5);
-    match body_of(&flat) {
+    let laid = laid(alloc, body)?;
+    assert_eq!(rt; laid.variables, 5);
+    match body_of(&laid) {
         Some(
             [
                 FlatStmt::Local { variable: 3, .. },

@@ -85,7 +85,8 @@ fn part_holds_call(part: &PathPart) -> bool
 {
     match part {
         PathPart::Index(index) => holds_call(index.get()),
-        PathPart::Member(_) | PathPart::Swizzle(_) => false,
+        PathPart::Member(_) => false,
+        PathPart::Swizzle(_) => false,
     }
 }
 
@@ -107,7 +108,9 @@ fn root_holds_call(root: &Root) -> bool
 {
     match root {
         Root::Element { index, .. } => holds_call(index.get()),
-        Root::Variable(_) | Root::Constant(_) | Root::Shared(_) => false,
+        Root::Variable(_) => false,
+        Root::Constant(_) => false,
+        Root::Shared(_) => false,
     }
 }
 

@@ -1,10 +1,9 @@
-use Rattle.std.proofs.Common.{◌∙◌, ◌<◌, ◌++◌, ◌∷◌, [], ap, false, arith, length, map, refl, rules, sym}
+use Rattle.std.proofs.Common.{◌∙◌, ◌<◌, ◌++◌, ◌∷◌, [], ap, arith, length, map, refl, rules, sym}
 use Rattle.std.proofs.lemmas.List.{take_all}
 use Rattle.hl_meaning.specs.Views.{plain_expr, plain_form, plain_location, plain_maybe_expr, plain_maybe_location, plain_part, plain_parts, plain_root, plain_target}
-use Rattle.hl_meaning.proofs.Plain.{plain_form-Atomic, plain_form-Binary, plain_form-Build, plain_form-Call, plain_form-Choose, plain_form-Convert, plain_form-Intrinsic, plain_form-Literal, plain_form-Method, plain_form-Pick, plain_form-Read, plain_form-Unary, plain_form-Write, plain_location-is, plain_part-Index, plain_root-Element, plain_target-Bytes, plain_target-Place}
+use Rattle.hl_meaning.proofs.Plain.{plain_form-Atomic, plain_form-Binary, plain_form-Build, plain_form-Call, plain_form-Choose, plain_form-Convert, plain_form-Intrinsic, plain_form-Literal, plain_form-Method, plain_form-Pick, plain_form-Read, plain_form-Unary, plain_form-Write, plain_location-is, plain_part-Index, plain_part-Member, plain_part-Swizzle, plain_root-Constant, plain_root-Element, plain_root-Shared, plain_root-Variable, plain_target-Bytes, plain_target-Place}
 use Rattle.hl_inline.specs.Building.{expr_calls, last_true, part_calls}
 use Rattle.hl_inline.specs.Flattening.{any_calls, emitter, expr_if_emitters, part_emitters, parts_emitters, place_emitters, place_if_emitters, root_emitters, target_emitters}
-use Rattle.hl_inline.proofs.GivenForms.{part-other, root-no_element}
 use Rattle.hl_inline.proofs.Held.{both, calls-as, exprs-last, last-next, one, parts-last}
 use Rattle.hl_inline.proofs.holding.+holding.Goals as goal
 
@@ -107,21 +106,6 @@ pub last_call_in_parts-returns : goal.last_call_in_parts-returns
 last_call_in_parts-returns t c = λ k i.
     c.loop-index.invariant k i ∙ ap (λ l. last_true (map (part_calls k i) l)) (take_all c.loop-index.index c.args.parts.now (omega arith))
 
-pub part_holds_call-returns-in-Member : goal.part_holds_call-returns-in-Member
-part_holds_call-returns-in-Member t c = λ k i. part-other (λ p. any_calls (part_emitters k i p)) false c.args.part.now c.in-Member.is (λ x. refl) (λ x. refl)
-
-pub part_holds_call-returns-in-Member-2 : goal.part_holds_call-returns-in-Member-2
-part_holds_call-returns-in-Member-2 t c = λ k i. part-other (λ p. any_calls (part_emitters k i p)) false c.args.part.now c.in-Member.is (λ x. refl) (λ x. refl)
-
-pub root_holds_call-returns-in-Variable : goal.root_holds_call-returns-in-Variable
-root_holds_call-returns-in-Variable t c = λ k i. root-no_element (λ r. any_calls (root_emitters k i r)) false c.args.root.now c.in-Variable.is (λ x. refl) (λ x. refl) (λ x. refl)
-
-pub root_holds_call-returns-in-Variable-2 : goal.root_holds_call-returns-in-Variable-2
-root_holds_call-returns-in-Variable-2 t c = λ k i. root-no_element (λ r. any_calls (root_emitters k i r)) false c.args.root.now c.in-Variable.is (λ x. refl) (λ x. refl) (λ x. refl)
-
-pub root_holds_call-returns-in-Variable-3 : goal.root_holds_call-returns-in-Variable-3
-root_holds_call-returns-in-Variable-3 t c = λ k i. root-no_element (λ r. any_calls (root_emitters k i r)) false c.args.root.now c.in-Variable.is (λ x. refl) (λ x. refl) (λ x. refl)
-
 pub last_call-loop-index-preserved : goal.last_call-loop-index-preserved
 last_call-loop-index-preserved t c = λ k i.
     let within : c.loop-index.index < length c.args.exprs.now = search rules in
@@ -133,3 +117,18 @@ last_call_in_parts-loop-index-preserved t c = λ k i.
     let within : c.loop-index.index < length c.args.parts.now = search rules in
     last-next (part_calls k i) c.args.parts.now c.loop-index.index c.index-parts-index.result c.part_holds_call.result c.loop-index.last c.last_with-last.result
     within c.index-parts-index.is (c.loop-index.invariant k i) (c.part_holds_call.ensures k i) c.last_with-last.ensures
+
+pub part_holds_call-returns-in-Member : goal.part_holds_call-returns-in-Member
+part_holds_call-returns-in-Member t c = λ k i. sym (ap (λ p. any_calls (part_emitters k i p)) (ap plain_part c.in-Member.is ∙ plain_part-Member _))
+
+pub part_holds_call-returns-in-Swizzle : goal.part_holds_call-returns-in-Swizzle
+part_holds_call-returns-in-Swizzle t c = λ k i. sym (ap (λ p. any_calls (part_emitters k i p)) (ap plain_part c.in-Swizzle.is ∙ plain_part-Swizzle _))
+
+pub root_holds_call-returns-in-Variable : goal.root_holds_call-returns-in-Variable
+root_holds_call-returns-in-Variable t c = λ k i. sym (ap (λ r. any_calls (root_emitters k i r)) (ap plain_root c.in-Variable.is ∙ plain_root-Variable _))
+
+pub root_holds_call-returns-in-Constant : goal.root_holds_call-returns-in-Constant
+root_holds_call-returns-in-Constant t c = λ k i. sym (ap (λ r. any_calls (root_emitters k i r)) (ap plain_root c.in-Constant.is ∙ plain_root-Constant _))
+
+pub root_holds_call-returns-in-Shared : goal.root_holds_call-returns-in-Shared
+root_holds_call-returns-in-Shared t c = λ k i. sym (ap (λ r. any_calls (root_emitters k i r)) (ap plain_root c.in-Shared.is ∙ plain_root-Shared _))

@@ -1,6 +1,6 @@
 use Rattle.std.proofs.Common.{◌∙◌, ap, map, sym}
 use Rattle.hl_meaning.specs.Trees.{atomic_form, binary_form, build_form, bytes_target, call_form, choose_form, convert_form, element_root, index_part, intrinsic_form, method_form, pick_form, place_arg, place_target, read_form, unary_form, value_arg, write_form}
-use Rattle.hl_meaning.specs.Views.{args_of, exprs_of, parts_of, plain_arg, plain_args, plain_expr, plain_exprs, plain_form, plain_location, plain_maybe_expr, plain_maybe_location, plain_part, plain_parts, plain_root, plain_target, plain_ty}
+use Rattle.hl_meaning.specs.Views.{args_of, exprs_of, parts_of, plain_arg, plain_expr, plain_form, plain_location, plain_maybe_expr, plain_maybe_location, plain_part, plain_parts, plain_root, plain_target, plain_ty}
 use Rattle.hl_meaning.proofs.Plain.{plain_arg-Place, plain_arg-Value, plain_expr-is, plain_form-Atomic, plain_form-Binary, plain_form-Build, plain_form-Call, plain_form-Choose, plain_form-Convert, plain_form-Intrinsic, plain_form-Method, plain_form-Pick, plain_form-Read, plain_form-Unary, plain_form-Write, plain_location-is, plain_part-Index, plain_root-Element, plain_target-Bytes, plain_target-Place}
 use Rattle.hl_inline.proofs.Gathering.{copied-end, copied-next}
 use Rattle.hl_inline.proofs.GivenForms.{expr-as, location-as}

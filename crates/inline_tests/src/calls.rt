@@ -122,6 +122,7 @@ fn a_function_that_is_called_twice_has_its_variables_twice(rt: HostRuntime) -> R
                     FlatStmt::Named { name: 1, .. },
                     FlatStmt::Local { variable: 4, .. },
                     FlatStmt::Named { name: 2, .. },
+                    FlatStmt::Local { variable: 0, .. },
                     FlatStmt::Run(_),
                 ] => {}
                 _ => assert!(rt; false),

@@ -5,7 +5,7 @@ from dataclasses import dataclass
 import subprocess, sys
 
 from measure import instructions, memory_ratio, peak, seconds, shown
-from programs import WIDE, kernels
+from programs import ASIDE, WIDE, kernels
 from sources import DEEPEST, WIDEST, average, dense, tokens_of
 
 MOST_BYTES = 1048576
@@ -142,7 +142,8 @@ def show_programs(program, folder, idle, judge):
             path.write_bytes(source)
             both.append(timed(program, 'elaborate', path, source, 3))
         ratio = doubled(program, 'elaborate', *both)
-        judge.wants(f'elaborate, {shape}, over half the size', ratio, DOUBLED)
+        if shape not in ASIDE:
+            judge.wants(f'elaborate, {shape}, over half the size', ratio, DOUBLED)
         row(shape, 'elaborate', both[1], memory_ratio([program, 'elaborate'], both[1].path, idle), ratio)
 
 

@@ -265,6 +265,8 @@ WIDE = {
     '64 operands': repeated(ENTRY + b'uint x=0;', b'x=1' + 61 * b'+1' + b';', b'}'),
     'greatest size': sized(16384),
 }
+# each function of a name is compared with those of the name before it, and no aim is set for that
+ASIDE = {'overloads'}
 SHAPES = {'kernels': kernels} | WIDE
 
 

@@ -1,26 +1,25 @@
 -- A form acts alike in a program and in one without calls, on the same words of its operands.
-use Rattle.std.proofs.Common.{◌≡◌, ◌∙◌, refl, sym, ap, subst, ℕ, suc, ◌+◌, Bool, true, false, List, [], ◌∷◌, map, length, drop, Option, None, Some, Result, Ok, Err, arith}
+use Rattle.std.proofs.Common.{◌≡◌, refl, sym, subst, ℕ, Bool, false, List, [], ◌∷◌, map, Option, None, Some, Result, Ok, Err}
 use Rattle.std.specs.Prelude.{if◌then◌else◌, slice_index, take}
-use Rattle.std.specs.List.{concat}
 use Rattle.std.proofs.lemmas.Bool.{true≢false}
 use Rattle.lane_core.specs.declared.event.AtomicKind.{AtomicKind}
 use Rattle.lane_core.specs.declared.event.LaneFault.{LaneFault}
 use Rattle.lane_core.specs.declared.event.WaveKind.{WaveKind}
 use Rattle.hl_meaning.specs.declared.ty.Kind.{Kind}
 use Rattle.hl_meaning.specs.Types.{Ty}
-use Rattle.hl_meaning.specs.Trees.{Expr, Form, Location, MaybeExpr, MaybeLocation, Target, a_location, an_expr, atomic_form, binary_form, build_form, bytes_target, call_form, choose_form, convert_form, intrinsic_form, literal_form, method_form, no_expr, no_location, pick_form, place_target, place_type, read_form, some_expr, some_location, type_of, unary_form, write_form}
+use Rattle.hl_meaning.specs.Trees.{Expr, Form, Location, MaybeLocation, Target, atomic_form, binary_form, build_form, bytes_target, call_form, choose_form, convert_form, intrinsic_form, literal_form, method_form, no_expr, no_location, pick_form, place_target, place_type, read_form, some_expr, some_location, type_of, unary_form, write_form}
 use Rattle.hl_meaning.specs.Programs.{Variable}
 use Rattle.lane_core.specs.Words.{wrapped}
-use Rattle.hl_source.specs.Operations.{binary_words, chosen_word, component_kind, converted, map_3, unary_word}
-use Rattle.hl_source.specs.State.{Context, Progress, State, after, asks, each, faults, gives, goes_with, no_value, reply_word, reply_words}
-use Rattle.hl_source.specs.Offsets.{picked_words, place_of, slot_of}
-use Rattle.hl_source.specs.Memory.{atomic_address, atomic_word, load_four, read_place, store_four, write_place}
-use Rattle.hl_source.specs.Intrinsics.{Work, barrier, from_all, from_one, from_three, from_two, of_lane, own_form, wave, wave_alone, wave_at, wave_four, wave_word, wave_words, work_of, worked}
+use Rattle.hl_source.specs.Operations.{binary_words, component_kind, converted}
+use Rattle.hl_source.specs.State.{Context, State, gives, goes_with, reply_words}
+use Rattle.hl_source.specs.Offsets.{picked_words}
+use Rattle.hl_source.specs.Intrinsics.{Work, barrier, from_all, from_one, from_three, from_two, of_lane, own_form, wave, wave_alone, wave_at, wave_four, wave_words, work_of, worked}
 use Rattle.hl_source.specs.Expressions.{acts, assigned, assigns, atomic_original, read_if, write_if}
 use Rattle.hl_inline.specs.Operands.{filled, filled_place, filled_place_if, filled_target, first_expr, operand_exprs}
 use Rattle.hl_inline.proofs.OperandLemmas.{is_call_form}
 use Rattle.hl_inline.proofs.Relation.{Alike, Stands, alike_after, alike_each, alike_goes, flat_of_context}
 use Rattle.hl_inline.proofs.Reading.{Acting, Follow, IsChangedPlace, PlaceIn, acting_follows, alike_asks, alike_asks_word, alike_atomic_place, alike_faults, alike_load_four, alike_read_place, alike_store_four, alike_then, alike_write_place}
+use Rattle.hl_inline.proofs.FilledLemmas.{place_type_filled}
 
 abbrev pub TargetIn : Context → (D : ℕ → Type 0) → Target → Type 0
 TargetIn c D (place_target place) = PlaceIn c D place
@@ -50,9 +49,6 @@ first_type (x ∷ es) value rest e = head_is e
   where
     head_is : type_of x ∷ map type_of es ≡ type_of value ∷ map type_of rest → type_of x ≡ type_of value
     head_is e = cc
-
-pub place_type_filled : (first : ℕ) (place : Location) (es : List Expr) → place_type (filled_place first place es) ≡ place_type place
-place_type_filled first (a_location ty root parts) es = refl
 
 module _ (R : State → State → Type 0) (follow : Follow R) where
   alike_gives : {A : Type 0} (r : Result A LaneFault) (s t : State) → R s t → Alike R (gives r s) (gives r t)

@@ -1,17 +1,19 @@
 -- Calls of functions that aren't there, and what arguments start with and are written back by.
-use Rattle.std.proofs.Common.{◌≡◌, ◌∙◌, refl, ap, sym, ℕ, suc, ◌+◌, Bool, false, true, if◌then◌else◌, List, [], ◌∷◌, ◌++◌, arith}
+use Rattle.std.proofs.Common.{◌≡◌, ◌∙◌, refl, ap, sym, ℕ, suc, ◌+◌, Bool, false, true, if◌then◌else◌, List, [], ◌∷◌, ◌++◌, ◌⊎◌, inl, inr, Some, arith}
 use Rattle.hl_meaning.specs.declared.expression.Location.{Location as HeldLocation}
+use Rattle.hl_meaning.specs.declared.program.Copying.{Copying}
+use Rattle.hl_meaning.specs.declared.program.Copying.TheVariants.{CopyBoth, CopyIn}
 use Rattle.hl_meaning.specs.declared.ty.HlType.{HlType}
 use Rattle.hl_meaning.specs.declared.ty.HlType.TheVariants.{Void}
 use Rattle.hl_meaning.specs.Programs.{Variable}
 use Rattle.hl_meaning.specs.Types.{Ty, is_void}
-use Rattle.hl_meaning.specs.Trees.{Form, an_expr, place_type, read_form}
+use Rattle.hl_meaning.specs.Trees.{Form, Location, an_expr, place_type, read_form}
 use Rattle.hl_meaning.specs.Views.{plain_location, plain_ty}
 use Rattle.hl_meaning.proofs.Plain.{plain_location-is, plain_ty-Array, plain_ty-Scalar, plain_ty-Struct, plain_ty-Vector, plain_ty-Void}
 use Rattle.hl_meaning.proofs.TypeLemmas.{type_cases}
 use Rattle.hl_inline.specs.Building.{behind, valued}
 use Rattle.hl_inline.specs.FlatTrees.{FlatStmt, flat_block, flat_named, no_flat_stmts}
-use Rattle.hl_inline.specs.Flattening.{Argument, Fresh, Instance, call, instance_of, next_of, nothing_inlined, nothing_passed, pass_all, place_argument, place_of_variable, reading, result_variables, unnamed, value_argument, with_body, with_instance, with_variables}
+use Rattle.hl_inline.specs.Flattening.{Argument, Fresh, Instance, call, instance_of, next_of, nothing_inlined, nothing_passed, pass_all, place_argument, place_of_variable, reading, result_variables, start_value, unnamed, value_argument, with_body, with_instance, with_variables}
 
 -- no parameter takes an argument
 passed-none : (i : Instance) (at number : ℕ) (args : List Argument) (fresh : Fresh) → pass_all i at number args [] fresh ≡ nothing_passed fresh
@@ -56,6 +58,11 @@ one-result ty at other = ap (λ b. result b) (type_cases (λ t. (t ≡ Void → 
   where
     result : Bool → List Variable
     result b = if b then [] else unnamed (plain_ty ty) at ∷ []
+
+-- what the variable of a parameter starts with that takes a value
+pub start-given : (given : Copying) (place : Location) (at : ℕ) → (given ≡ CopyIn) ⊎ (given ≡ CopyBoth) → start_value given place at ≡ Some (an_expr (place_type place) at (read_form place))
+start-given given place at (inl is) = ap (λ c. start_value c place at) is
+start-given given place at (inr is) = ap (λ c. start_value c place at) is
 
 pub place_type-is : (l : HeldLocation) → place_type (plain_location l) ≡ plain_ty l.ty
 place_type-is l = ap place_type (plain_location-is l)

@@ -1,28 +1,27 @@
 -- A call does what its function's body does in place.
-use Rattle.std.proofs.Common.{◌≡◌, ◌∙◌, refl, sym, ap, subst, ℕ, zero, suc, ◌+◌, ◌<◌, ◌≤◌, ◌⊎◌, inl, inr, Bool, true, false, List, [], ◌∷◌, ◌++◌, map, length, Option, None, Some, slice_get, arith}
+use Rattle.std.proofs.Common.{◌≡◌, ◌∙◌, refl, sym, ap, subst, ℕ, suc, ◌+◌, ◌<◌, ◌≤◌, inl, inr, false, List, [], ◌∷◌, ◌++◌, length, Some, slice_get, arith}
 use Rattle.std.specs.Prelude.{if◌then◌else◌, option_map, slice_index_or}
-use Rattle.std.proofs.lemmas.List.{append_assoc, length-append}
+use Rattle.std.proofs.lemmas.List.{length-append}
 use Rattle.std.proofs.lemmas.Bool.{true≢false}
 use Rattle.lane_core.specs.Lane.{Exchange, Lane}
-use Rattle.hl_meaning.specs.declared.program.Parameter.{Parameter}
 use Rattle.hl_meaning.specs.Types.{Ty, is_void}
 use Rattle.hl_meaning.specs.Trees.{Args, Expr, an_expr, call_form, more_args, no_args}
 use Rattle.hl_meaning.specs.Places.{variable_type}
 use Rattle.hl_meaning.specs.Programs.{Variable}
-use Rattle.hl_meaning.proofs.LayoutForms.{get-front, get-next}
 use Rattle.hl_source.specs.State.{Callee, Context, Progress, State, after, ends_at, goes_with, variable_words}
 use Rattle.hl_source.specs.Memory.{constant_words}
 use Rattle.hl_source.specs.Expressions.{arguments, calls, copies_out, evaluates, no_callee, parameters_of, starts}
 use Rattle.hl_inline.specs.FlatTrees.{Flat, FlatStmt, flat_block, flat_named}
 use Rattle.hl_inline.specs.FlatViews.{flat_stmts_of}
-use Rattle.hl_inline.specs.FlatLane.{flat_context, flat_end}
-use Rattle.hl_inline.specs.Flattening.{Emitter, Fresh, Inlined, Instance, Laid, Passed, Valued, call, instance_of, next_of, pass_all, reading, result_variables, unnamed, with_body, with_instance}
-use Rattle.hl_inline.proofs.ProgressLemmas.{giving}
-use Rattle.hl_inline.proofs.Relation.{IsOutside, Keeps, KeepsAll, Related, Stands, flat_of_context, sizes_at, sizes_in}
+use Rattle.hl_inline.specs.FlatLane.{flat_context}
+use Rattle.hl_inline.specs.Flattening.{Emitter, Fresh, Inlined, Instance, Passed, Valued, call, instance_of, next_of, pass_all, reading, result_variables, unnamed, with_body, with_instance}
+use Rattle.hl_inline.proofs.Relation.{Keeps, Related, Stands, flat_of_context, sizes_at, sizes_in}
 use Rattle.hl_inline.proofs.FittingWords.{Fits, reading_gives}
-use Rattle.hl_inline.proofs.Performing.{Opens, Runs, Yields, perform, runs_map, runs_then, runs_with}
-use Rattle.hl_inline.proofs.Emission.{ClosesAs, Emits, HasRoom, HasValue, IsFront, KeepsFrom, Later, OpensAs, Stays, front_length, front_more, front_trans, type_there}
-use Rattle.hl_inline.proofs.Passing.{ArgsReady, ArgsTyped, HeldAs, PassedAs, arg_type, args_by, pass_grows, pass_names, passing, runs_giving}
+use Rattle.hl_inline.proofs.Performing.{Opens, Runs, perform, runs_map, runs_then, runs_with}
+use Rattle.hl_inline.proofs.Emission.{ClosesAs, Emits, HasRoom, HasValue, Later, Stays}
+use Rattle.hl_inline.proofs.Passing.{ArgsReady, ArgsTyped, HeldAs, arg_type, pass_grows, pass_names, passing, runs_giving}
+use Rattle.hl_inline.proofs.Fronts.{IsFront, front_length, front_more, front_trans, instance_type, result_type_at}
+use Rattle.hl_inline.proofs.OperandLemmas.{args_by}
 
 -- Where an instance of a function stands among the variables of a program without calls: its variables, and that of its
 -- result where it has one, are `count` from its first one on.
@@ -69,44 +68,17 @@ pub closes_opens : {A : Type 0} (c : Context) (V : List Variable) (first : ℕ) 
 closes_opens c V first D below more t k (goes_with a s) q (u, e, stays) = (u, e, stays.0.1, (u, stays.1 u (λ w above lower. refl), stays.0))
 closes_opens c V first D below more t k (ends_at run) q e = inl e
 
--- variables behind others, and in front of others
-
-get_behind : {A : Type 0} (xs ys : List A) (v : ℕ) → slice_get (xs ++ ys) (length xs + v) ≡ slice_get ys v
-get_behind [] ys v = ap (slice_get ys) (omega arith)
-get_behind (x ∷ xs) ys v = ap (slice_get (x ∷ (xs ++ ys))) (suc_add (length xs) v) ∙ get_behind xs ys v
-  where
-    suc_add : (m v : ℕ) → suc m + v ≡ suc (m + v)
-    suc_add m v = omega arith
-
-pub type_behind : (xs ys : List Variable) (v : ℕ) → variable_type (xs ++ ys) (length xs + v) ≡ variable_type ys v
-type_behind xs ys v = ap (λ o. option_map (λ x. x.ty) o) (get_behind xs ys v)
-
-pub type_front : (xs ys : List Variable) (v : ℕ) (ty : Ty) → variable_type xs v ≡ Some ty → variable_type (xs ++ ys) v ≡ Some ty
-type_front xs ys v ty e = ap (λ o. option_map (λ x. x.ty) o) (get-front xs ys v (type_there xs v ty e)) ∙ e
-
--- the variables of an instance have their types among all
-pub instance_type : (before own more V : List Variable) (v : ℕ) (ty : Ty) → IsFront (before ++ (own ++ more)) V → variable_type own v ≡ Some ty → variable_type V (length before + v) ≡ Some ty
-instance_type before own more V v ty (rest, e) typed =
-    ap (λ l. variable_type l (length before + v)) (e ∙ append_assoc before (own ++ more) rest) ∙
-    (type_behind before ((own ++ more) ++ rest) v ∙ (type_front (own ++ more) rest v ty (type_front own more v ty typed)))
+-- the variables of parameters
 
 pub args_typed_at : (before own more V : List Variable) (number : ℕ) (args : Args) → IsFront (before ++ (own ++ more)) V → ArgsTyped own number args → ArgsTyped V (length before + number) args
 args_typed_at before own more V number no_args front typed = tt
-args_typed_at before own more V number (more_args arg rest) front typed =
-    (instance_type before own more V number (arg_type arg) front typed.0,
-    subst (λ k. ArgsTyped V k rest) (next (length before) number) (args_typed_at before own more V (suc number) rest front typed.1))
+args_typed_at before own more V number (more_args arg rest) front typed = (
+  instance_type before own more V number (arg_type arg) front typed.0,
+  subst (λ k. ArgsTyped V k rest) (next (length before) number) (args_typed_at before own more V (suc number) rest front typed.1),
+)
   where
     next : (m k : ℕ) → m + suc k ≡ suc (m + k)
     next m k = omega arith
-
--- the variable of a result is the first behind those of its function
-pub result_type_at : (before own V : List Variable) (ty : Ty) (at : ℕ) → IsFront (before ++ (own ++ result_variables ty at)) V → is_void ty ≡ false → variable_type V (length before + length own) ≡ Some ty
-result_type_at before own V ty at (rest, e) some =
-    ap (λ l. variable_type l (length before + length own)) (e ∙ append_assoc before (own ++ result_variables ty at) rest) ∙
-    (type_behind before ((own ++ result_variables ty at) ++ rest) (length own) ∙
-    (ap (λ b. variable_type ((own ++ (if b then [] else unnamed ty at ∷ [])) ++ rest) (length own)) some ∙
-    (ap (λ l. variable_type l (length own)) (append_assoc own (unnamed ty at ∷ []) rest) ∙
-    ap (λ o. option_map (λ x. x.ty) o) (get-next own (unnamed ty at) rest))))
 
 pub result_count : (own : List Variable) (ty : Ty) (at : ℕ) → is_void ty ≡ false → length (own ++ result_variables ty at) ≡ length own + 1
 result_count own ty at some = length-append own (result_variables ty at) ∙ ap (λ b. length own + length (if b then [] else unnamed ty at ∷ [])) some
@@ -142,30 +114,36 @@ module _ (c : Context) (V : List Variable) (first : ℕ) (stands : Stands c V fi
         InstanceIn c V (instance_of g fresh) g (length (g.variables ++ result_variables ty at)) (pass_all i at (next_of fresh) (args_by em args) g.parameters (with_instance g ty at fresh)).fresh →
         (s t : State) → Related c V first D s t →
         Runs (CalledAs ty (next_of fresh) (instance_of g fresh).result t) (evaluates c (an_expr ty at (call_form function args)) s)
-            (perform f lane n (with_body ty at g (instance_of g fresh) (pass_all i at (next_of fresh) (args_by em args) g.parameters (with_instance g ty at fresh))).code t)
+        (perform f lane n (with_body ty at g (instance_of g fresh) (pass_all i at (next_of fresh) (args_by em args) g.parameters (with_instance g ty at fresh))).code t)
     call_runs args_ready typed room place s t r =
         subst (λ ps. Runs (CalledAs ty (next_of fresh) (instance_of g fresh).result t) (after (arguments c args ps s) (λ operands s1. calls c (slice_index_or c.callees function no_callee) args operands s1)) (perform f lane n whole.code t)) (sym ready.parameters)
         (runs_then f lane n _ _ passed.code _ t (arguments c args g.parameters s) (λ operands s1. calls c (slice_index_or c.callees function no_callee) args operands s1)
-            (passing c V first stands f lane n known D em i is at (next_of fresh) args g.parameters args_ready typed (with_instance g ty at fresh) room
-                (omega (arith, behind_instance, length-append g.variables (result_variables ty at), ready.fewer)) front s t r)
-            (λ operands s1 t1 passed_as.
-            runs_then f lane n _ _ (body_code g (instance_of g fresh) passed.fresh) passed.copies t1 (slice_index_or c.callees function no_callee (starts operands) s1.exchange)
-                (λ result ended. after (copies_out c args operands ended.variables (record s1 { exchange = ended.exchange })) (λ _ s2. goes_with result s2))
-                (ready.inlines.runs (instance_of g fresh) count passed.fresh place (starts operands) s1.exchange t1
-                    (record { exchange = passed_as.related.exchange; flat_sizes = passed_as.related.flat_sizes; constants = passed_as.related.constants; held = passed_as.held; exact = passed_as.exact }))
-                (λ result ended t2 ends.
-                runs_giving _ _ (λ _. result) (copies_out c args operands ended.variables (record s1 { exchange = ended.exchange })) _
-                    (passed_as.copy ended.variables (record s1 { exchange = ended.exchange }) t2 (related_behind s1 t1 passed_as.related result ended t2 ends)
-                        (λ w above lower. ends.keeps w lower (inr (omega (arith, above, behind_instance)))) ends.held)
-                    (λ _ s3 u written.
-                    ((written.0, λ w lower outside.
-                        written.1 w outside ∙ (ends.keeps w (omega (arith, lower, behind_instance, low)) (inl (omega (arith, lower))) ∙ passed_as.keeps w (omega (arith, lower, behind_instance)) outside (inl (omega (arith, lower))))),
-                    λ some. written.1 (next_of fresh + length g.variables) (inr (omega (arith, room))) ∙ ends.result_held (subst (λ x. is_void x ≡ false) (sym ready.result) some))))))
+        (passing c V first stands f lane n known D em i is at (next_of fresh) args g.parameters args_ready typed (with_instance g ty at fresh) room
+        (omega (arith, behind_instance, length-append g.variables (result_variables ty at), ready.fewer)) front s t r)
+        (λ operands s1 t1 passed_as.
+        runs_then f lane n _ _ (body_code g (instance_of g fresh) passed.fresh) passed.copies t1 (slice_index_or c.callees function no_callee (starts operands) s1.exchange)
+        (λ result ended. after (copies_out c args operands ended.variables (record s1 { exchange = ended.exchange })) (λ _ s2. goes_with result s2))
+        (ready.inlines.runs (instance_of g fresh) count passed.fresh place (starts operands) s1.exchange t1
+        (record { exchange = passed_as.related.exchange; flat_sizes = passed_as.related.flat_sizes; constants = passed_as.related.constants; held = passed_as.held; exact = passed_as.exact }))
+        (λ result ended t2 ends.
+        runs_giving _ _ (λ _. result) (copies_out c args operands ended.variables (record s1 { exchange = ended.exchange })) _
+        (passed_as.copy ended.variables (record s1 { exchange = ended.exchange }) t2 (related_behind s1 t1 passed_as.related result ended t2 ends)
+        (λ w above lower. ends.keeps w lower (inr (omega (arith, above, behind_instance)))) ends.held)
+        (λ _ s3 u written. (
+          (
+            written.0,
+            λ w lower outside.
+                written.1 w outside ∙ (ends.keeps w (omega (arith, lower, behind_instance, low)) (inl (omega (arith, lower))) ∙ passed_as.keeps w (omega (arith, lower, behind_instance)) outside (inl (omega (arith, lower)))),
+          ),
+          λ some. written.1 (next_of fresh + length g.variables) (inr (omega (arith, room))) ∙ ends.result_held (subst (λ x. is_void x ≡ false) (sym ready.result) some),
+        )))))
       where
         front : IsFront (pass_all i at (next_of fresh) (args_by em args) g.parameters (with_instance g ty at fresh)).fresh.variables V
         front = front_trans (pass_all i at (next_of fresh) (args_by em args) g.parameters (with_instance g ty at fresh)).fresh.variables _ V (ready.inlines.grows (instance_of g fresh) _) place.front
+
         low : next_of (with_instance g ty at fresh) ≤ next_of (pass_all i at (next_of fresh) (args_by em args) g.parameters (with_instance g ty at fresh)).fresh
         low = front_length (with_instance g ty at fresh).variables _ (pass_grows c V first stands f lane n known D em i at (next_of fresh) args g.parameters args_ready (with_instance g ty at fresh))
+
         related_behind : (s1 t1 : State) → Related c V first D s1 t1 → (result : List ℕ) (ended t2 : State) →
             EndsAs c V (instance_of g fresh) g (length (g.variables ++ result_variables ty at)) (next_of (pass_all i at (next_of fresh) (args_by em args) g.parameters (with_instance g ty at fresh)).fresh) t1 result ended t2 →
             Related c V first D (record s1 { exchange = ended.exchange }) t2
@@ -182,7 +160,7 @@ module _ (c : Context) (V : List Variable) (first : ℕ) (stands : Stands c V fi
     call_grows args_ready =
         front_trans fresh.variables (with_instance g ty at fresh).variables _ (front_more fresh.variables (g.variables ++ result_variables ty at))
         (front_trans (with_instance g ty at fresh).variables passed.fresh.variables _
-            (pass_grows c V first stands f lane n known D em i at (next_of fresh) args g.parameters args_ready (with_instance g ty at fresh)) (ready.inlines.grows (instance_of g fresh) passed.fresh))
+        (pass_grows c V first stands f lane n known D em i at (next_of fresh) args g.parameters args_ready (with_instance g ty at fresh)) (ready.inlines.grows (instance_of g fresh) passed.fresh))
 
     pub call_names : fresh.names ≤ (with_body ty at g (instance_of g fresh) (pass_all i at (next_of fresh) (args_by em args) g.parameters (with_instance g ty at fresh))).fresh.names
     call_names = omega (arith, pass_names c V first stands f lane n known D em i at (next_of fresh) args g.parameters ready.args_ready (with_instance g ty at fresh), ready.inlines.names (instance_of g fresh) passed.fresh)
@@ -201,8 +179,12 @@ module _ (c : Context) (V : List Variable) (first : ℕ) (stands : Stands c V fi
       constant = stands.constant;
       own_type = λ v t typed. instance_type fresh.variables g.variables (result_variables ty at) V v t (instance_front room) typed;
       large = omega (arith, length-append g.variables (result_variables ty at));
-      room = omega (arith, behind_instance, front_length (with_instance g ty at fresh).variables _
-          (pass_grows c V first stands f lane n known D em i at (next_of fresh) args g.parameters ready.args_ready (with_instance g ty at fresh)));
+      room = omega (
+        arith,
+        behind_instance,
+        front_length (with_instance g ty at fresh).variables _
+            (pass_grows c V first stands f lane n known D em i at (next_of fresh) args g.parameters ready.args_ready (with_instance g ty at fresh)),
+      );
       result_type = λ some. result_type_at fresh.variables g.variables V ty at (instance_front room) (subst (λ x. is_void x ≡ false) ready.result some) ∙ ap Some (sym ready.result);
       result_place = λ some. (omega arith, omega (arith, result_count g.variables ty at (subst (λ x. is_void x ≡ false) ready.result some)));
       front = room.1;
@@ -212,11 +194,11 @@ module _ (c : Context) (V : List Variable) (first : ℕ) (stands : Stands c V fi
     pub call_called : HasRoom c V first stands f lane n known fresh (with_body ty at g (instance_of g fresh) (pass_all i at (next_of fresh) (args_by em args) g.parameters (with_instance g ty at fresh))).fresh →
         (s t : State) → Related c V first D s t →
         Runs (CalledAs ty (next_of fresh) (instance_of g fresh).result t) (evaluates c (an_expr ty at (call_form function args)) s)
-            (perform f lane n (with_body ty at g (instance_of g fresh) (pass_all i at (next_of fresh) (args_by em args) g.parameters (with_instance g ty at fresh))).code t)
+        (perform f lane n (with_body ty at g (instance_of g fresh) (pass_all i at (next_of fresh) (args_by em args) g.parameters (with_instance g ty at fresh))).code t)
     call_called room =
         call_runs ready.args_ready
-            (subst (λ k. ArgsTyped V k args) (add_nothing (next_of fresh)) (args_typed_at fresh.variables g.variables (result_variables ty at) V 0 args (instance_front room) ready.args_typed))
-            room.0 (call_stands room)
+        (subst (λ k. ArgsTyped V k args) (add_nothing (next_of fresh)) (args_typed_at fresh.variables g.variables (result_variables ty at) V 0 args (instance_front room) ready.args_typed))
+        room.0 (call_stands room)
       where
         add_nothing : (m : ℕ) → m + 0 ≡ m
         add_nothing m = omega arith
@@ -225,22 +207,30 @@ module _ (c : Context) (V : List Variable) (first : ℕ) (stands : Stands c V fi
     pub call_closes : HasValue c (an_expr ty at (call_form function args)) → is_void ty ≡ false →
         HasRoom c V first stands f lane n known fresh (with_body ty at g (instance_of g fresh) (pass_all i at (next_of fresh) (args_by em args) g.parameters (with_instance g ty at fresh))).fresh →
         ClosesAs c V first stands f lane n known D (an_expr ty at (call_form function args)) fresh
-            (with_body ty at g (instance_of g fresh) (pass_all i at (next_of fresh) (args_by em args) g.parameters (with_instance g ty at fresh)))
+        (with_body ty at g (instance_of g fresh) (pass_all i at (next_of fresh) (args_by em args) g.parameters (with_instance g ty at fresh)))
     call_closes value some room s t r =
         runs_map (λ a s1 u. CalledAs ty (next_of fresh) (next_of fresh + length g.variables) t a s1 u × Fits c.scope.structs ty a) _ stays (evaluates c (an_expr ty at (call_form function args)) s) _
         (runs_with (CalledAs ty (next_of fresh) (instance_of g fresh).result t) (Fits c.scope.structs ty) (evaluates c (an_expr ty at (call_form function args)) s) _ (call_called room s t r) (value.fits s))
       where
         result_there : next_of fresh + length g.variables < next_of (with_body ty at g (instance_of g fresh) (pass_all i at (next_of fresh) (args_by em args) g.parameters (with_instance g ty at fresh))).fresh
-        result_there = omega (arith, result_count g.variables ty at some, behind_instance,
-            front_length (with_instance g ty at fresh).variables _ (pass_grows c V first stands f lane n known D em i at (next_of fresh) args g.parameters ready.args_ready (with_instance g ty at fresh)),
-            front_length (pass_all i at (next_of fresh) (args_by em args) g.parameters (with_instance g ty at fresh)).fresh.variables _ (ready.inlines.grows (instance_of g fresh) _))
+        result_there = omega (
+          arith,
+          result_count g.variables ty at some,
+          behind_instance,
+          front_length (with_instance g ty at fresh).variables _ (pass_grows c V first stands f lane n known D em i at (next_of fresh) args g.parameters ready.args_ready (with_instance g ty at fresh)),
+          front_length (pass_all i at (next_of fresh) (args_by em args) g.parameters (with_instance g ty at fresh)).fresh.variables _
+              (ready.inlines.grows (instance_of g fresh) (pass_all i at (next_of fresh) (args_by em args) g.parameters (with_instance g ty at fresh)).fresh),
+        )
+
         stays : (a : List ℕ) (s1 u : State) → CalledAs ty (next_of fresh) (next_of fresh + length g.variables) t a s1 u × Fits c.scope.structs ty a →
             Stays c V first D (next_of fresh) (next_of (with_body ty at g (instance_of g fresh) (pass_all i at (next_of fresh) (args_by em args) g.parameters (with_instance g ty at fresh))).fresh) t
-                (evaluates (flat_of_context c V) (reading ty at (next_of fresh + length g.variables))) a s1 u
-        stays a s1 u x =
-            (x.0.0, λ v keep.
-            reading_gives c V ty at (next_of fresh + length g.variables) a v (result_type_at fresh.variables g.variables V ty at (instance_front room) some) x.1 value.small
-                (keep (next_of fresh + length g.variables) (omega arith) result_there ∙ x.0.1 some))
+            (evaluates (flat_of_context c V) (reading ty at (next_of fresh + length g.variables))) a s1 u
+        stays a s1 u x = (
+          x.0.0,
+          λ v keep.
+              reading_gives c V ty at (next_of fresh + length g.variables) a v (result_type_at fresh.variables g.variables V ty at (instance_front room) some) x.1 value.small
+              (keep (next_of fresh + length g.variables) (omega arith) result_there ∙ x.0.1 some),
+        )
 
   pub call_emits : (i : Instance) → i.first ≡ first → (ty : Ty) (at function : ℕ) (args : Args) (g : Inlined) → CallReady function ty args g → HasValue c (an_expr ty at (call_form function args)) → is_void ty ≡ false →
       Emits c V first stands f lane n known D (an_expr ty at (call_form function args)) (call i ty at g (args_by em args))

@@ -1,17 +1,17 @@
 -- The places of expressions whose variables are all among some.
-use Rattle.std.proofs.Common.{◌≡◌, ◌∙◌, refl, sym, ap, subst, ℕ, suc, ◌+◌, ◌<◌, ◌≤◌, Bool, true, false, List, [], ◌∷◌, ◌++◌, map, length, Option, None, Some, slice_get, arith}
-use Rattle.std.specs.Prelude.{◌&&◌, IsTrue, option_and_then}
+use Rattle.std.proofs.Common.{◌≡◌, refl, ℕ, List, [], ◌∷◌, ◌++◌, Option, None, Some}
+use Rattle.std.specs.Prelude.{IsTrue, option_and_then}
 use Rattle.std.proofs.lemmas.Option.{none-some}
 use Rattle.lane_core.specs.declared.event.AtomicKind.{AtomicKind}
 use Rattle.hl_meaning.specs.Types.{Ty}
-use Rattle.hl_meaning.specs.Trees.{Arg, Args, Expr, Exprs, Form, Location, MaybeExpr, MaybeLocation, PathPart, PathParts, Root, Target, a_location, an_expr, atomic_form, binary_form, build_form, bytes_target, call_form, choose_form, constant_root, convert_form, element_root, index_part, intrinsic_form, literal_form, member_part, method_form, more_args, more_exprs, more_parts, no_args, no_expr, no_exprs, no_location, no_parts, pick_form, place_arg, place_target, read_form, shared_root, some_expr, some_location, swizzle_part, type_of, unary_form, value_arg, variable_root, write_form}
-use Rattle.hl_meaning.specs.Places.{Scope, has_distinct_letters, is_writable_place, is_writable_root, path_type, root_type}
+use Rattle.hl_meaning.specs.Trees.{Arg, Args, Expr, Exprs, Form, Location, MaybeExpr, MaybeLocation, PathParts, Root, Target, a_location, atomic_form, binary_form, build_form, bytes_target, call_form, choose_form, constant_root, convert_form, element_root, index_part, intrinsic_form, literal_form, member_part, method_form, more_args, more_exprs, more_parts, no_args, no_expr, no_exprs, no_location, no_parts, pick_form, place_arg, place_target, read_form, shared_root, some_expr, some_location, swizzle_part, type_of, unary_form, value_arg, variable_root, write_form}
+use Rattle.hl_meaning.specs.Places.{Scope, is_writable_place, path_type, root_type}
 use Rattle.hl_meaning.specs.WellFormed.{IsForm, IsOriginal, IsPlace, IsTarget}
 use Rattle.hl_source.specs.State.{Context}
-use Rattle.hl_inline.specs.IndexedVariables.{Mention, arg_mentions, args_mentions, call_mention, expr_if_mentions, expr_mentions, exprs_mentions, form_mentions, location_if_mentions, location_mentions, part_mentions, parts_mentions, place_mention, root_mentions, target_mentions}
-use Rattle.hl_inline.specs.Operands.{arg_exprs, args_exprs, expr_if_list, exprs_list, operand_exprs, parts_exprs, place_exprs, place_if_exprs, root_exprs, target_exprs}
+use Rattle.hl_inline.specs.IndexedVariables.{Mention, arg_mentions, args_mentions, call_mention, expr_if_mentions, expr_mentions, exprs_mentions, form_mentions, location_if_mentions, location_mentions, parts_mentions, place_mention, target_mentions}
+use Rattle.hl_inline.specs.Operands.{arg_exprs, args_exprs, expr_if_list, exprs_list, operand_exprs, parts_exprs, place_exprs, place_if_exprs, target_exprs}
 use Rattle.hl_inline.proofs.Induction.{Every, every_append, every_back, every_front}
-use Rattle.hl_inline.proofs.Reading.{IsChangedPlace, IsChangedRoot, IsInD, PlaceIn, RootIn}
+use Rattle.hl_inline.proofs.Reading.{IsChangedPlace, IsInD, PlaceIn}
 use Rattle.hl_inline.proofs.Acts.{ChangedIn, FormIn, TargetIn}
 use Rattle.hl_inline.proofs.Typed.{never}
 
@@ -68,22 +68,23 @@ args_covered : (D : ℕ → Type 0) (args : Args) → Covers D (args_mentions ar
 args_covered D no_args h = tt
 args_covered D (more_args first rest) h =
     every_append (CoversExpr D) (arg_exprs first) (args_exprs rest) (arg_covered D first (every_front (MentionIn D) (arg_mentions first) (args_mentions rest) h))
-        (args_covered D rest (every_back (MentionIn D) (arg_mentions first) (args_mentions rest) h))
+    (args_covered D rest (every_back (MentionIn D) (arg_mentions first) (args_mentions rest) h))
 
 pub operands_covered : (D : ℕ → Type 0) (form : Form) → Covers D (form_mentions form) → Every (CoversExpr D) (operand_exprs form)
 operands_covered D (literal_form word) h = tt
 operands_covered D (read_form place) h = place_covered D place h
 operands_covered D (write_form to op common value old) h =
     every_append (CoversExpr D) (place_exprs to) (value ∷ []) (place_covered D to (every_front (MentionIn D) (location_mentions to) (expr_mentions value) h))
-        (every_back (MentionIn D) (location_mentions to) (expr_mentions value) h, tt)
+    (every_back (MentionIn D) (location_mentions to) (expr_mentions value) h, tt)
 operands_covered D (convert_form value) h = (h, tt)
 operands_covered D (unary_form op value) h = (h, tt)
 operands_covered D (binary_form op left right) h =
     (every_front (MentionIn D) (expr_mentions left) (expr_mentions right) h, (every_back (MentionIn D) (expr_mentions left) (expr_mentions right) h, tt))
 operands_covered D (choose_form cond consequent alternative) h =
-    let rest = every_back (MentionIn D) (expr_mentions cond) (expr_mentions consequent ++ expr_mentions alternative) h in
-    (every_front (MentionIn D) (expr_mentions cond) (expr_mentions consequent ++ expr_mentions alternative) h,
-    (every_front (MentionIn D) (expr_mentions consequent) (expr_mentions alternative) rest, (every_back (MentionIn D) (expr_mentions consequent) (expr_mentions alternative) rest, tt)))
+    let rest = every_back (MentionIn D) (expr_mentions cond) (expr_mentions consequent ++ expr_mentions alternative) h in (
+      every_front (MentionIn D) (expr_mentions cond) (expr_mentions consequent ++ expr_mentions alternative) h,
+      (every_front (MentionIn D) (expr_mentions consequent) (expr_mentions alternative) rest, (every_back (MentionIn D) (expr_mentions consequent) (expr_mentions alternative) rest, tt)),
+    )
 operands_covered D (build_form parts) h = exprs_covered D parts h
 operands_covered D (pick_form value parts) h = (every_front (MentionIn D) (expr_mentions value) (parts_mentions parts) h, tt)
 operands_covered D (call_form function args) h = args_covered D args (every_front (MentionIn D) (args_mentions args) (call_mention function ∷ []) h)
@@ -94,11 +95,12 @@ operands_covered D (atomic_form target kind compare value original) h =
     let behind_target = every_back (MentionIn D) (target_mentions target) (expr_if_mentions compare ++ (expr_mentions value ++ location_if_mentions original)) h in
     let behind_compare = every_back (MentionIn D) (expr_if_mentions compare) (expr_mentions value ++ location_if_mentions original) behind_target in
     every_append (CoversExpr D) (target_exprs target) (expr_if_list compare ++ value ∷ place_if_exprs original)
-        (target_covered D target (every_front (MentionIn D) (target_mentions target) (expr_if_mentions compare ++ (expr_mentions value ++ location_if_mentions original)) h))
+    (target_covered D target (every_front (MentionIn D) (target_mentions target) (expr_if_mentions compare ++ (expr_mentions value ++ location_if_mentions original)) h))
     (every_append (CoversExpr D) (expr_if_list compare) (value ∷ place_if_exprs original)
-        (expr_if_covered D compare (every_front (MentionIn D) (expr_if_mentions compare) (expr_mentions value ++ location_if_mentions original) behind_target))
-    (every_front (MentionIn D) (expr_mentions value) (location_if_mentions original) behind_compare,
-    place_if_covered D original (every_back (MentionIn D) (expr_mentions value) (location_if_mentions original) behind_compare)))
+    (expr_if_covered D compare (every_front (MentionIn D) (expr_if_mentions compare) (expr_mentions value ++ location_if_mentions original) behind_target)) (
+      every_front (MentionIn D) (expr_mentions value) (location_if_mentions original) behind_compare,
+      place_if_covered D original (every_back (MentionIn D) (expr_mentions value) (location_if_mentions original) behind_compare),
+    ))
 
 -- places of a form itself
 
@@ -143,6 +145,7 @@ form_in c D ty (intrinsic_form number args) h covers = tt
 form_in c D ty (method_form resource count address value) h covers = tt
 form_in c D ty (atomic_form target kind compare value original) h covers =
     let behind_target = every_back (MentionIn D) (target_mentions target) (expr_if_mentions compare ++ (expr_mentions value ++ location_if_mentions original)) covers in
-    let behind_compare = every_back (MentionIn D) (expr_if_mentions compare) (expr_mentions value ++ location_if_mentions original) behind_target in
-    (target_in c D (type_of value) target h.1 (every_front (MentionIn D) (target_mentions target) (expr_if_mentions compare ++ (expr_mentions value ++ location_if_mentions original)) covers),
-    original_in c D target kind original h.5 (every_back (MentionIn D) (expr_mentions value) (location_if_mentions original) behind_compare))
+    let behind_compare = every_back (MentionIn D) (expr_if_mentions compare) (expr_mentions value ++ location_if_mentions original) behind_target in (
+      target_in c D (type_of value) target h.1 (every_front (MentionIn D) (target_mentions target) (expr_if_mentions compare ++ (expr_mentions value ++ location_if_mentions original)) covers),
+      original_in c D target kind original h.5 (every_back (MentionIn D) (expr_mentions value) (location_if_mentions original) behind_compare),
+    )

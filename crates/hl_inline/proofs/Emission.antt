@@ -1,7 +1,7 @@
 -- What becomes of operands in order does what the operands do.
-use Rattle.std.proofs.Common.{◌≡◌, ◌∙◌, refl, sym, ap, subst, ℕ, zero, suc, ◌+◌, ◌<◌, ◌≤◌, ◌⊎◌, inl, inr, Bool, true, false, List, [], ◌∷◌, ◌++◌, map, length, Option, None, Some, slice_get, unwrap_or, arith}
+use Rattle.std.proofs.Common.{◌≡◌, ◌∙◌, refl, sym, ap, subst, ℕ, ◌+◌, ◌<◌, ◌≤◌, inl, inr, Bool, true, false, List, [], ◌∷◌, ◌++◌, map, length, Option, None, Some, slice_get, unwrap_or, arith}
 use Rattle.std.specs.Prelude.{if◌then◌else◌, option_map, ◌||◌, ◌&&◌, not}
-use Rattle.std.proofs.lemmas.List.{append_assoc, append-nil, length-append}
+use Rattle.std.proofs.lemmas.List.{append-nil, length-append}
 use Rattle.std.proofs.lemmas.Bool.{true≢false}
 use Rattle.std.proofs.lemmas.Option.{none-some, same_Some, slice_get-map}
 use Rattle.lane_core.specs.Lane.{Lane, Run}
@@ -11,47 +11,21 @@ use Rattle.hl_meaning.specs.Places.{variable_type}
 use Rattle.hl_meaning.specs.Programs.{Variable}
 use Rattle.hl_meaning.specs.Layout.{words_of}
 use Rattle.hl_meaning.specs.WellFormed.{most_words}
-use Rattle.hl_meaning.proofs.LayoutForms.{get-next}
-use Rattle.hl_source.specs.State.{Context, Progress, State, after, each, ends_at, first_then, goes_with, variable_words, with_variable}
-use Rattle.hl_source.specs.Statements.{Leaving, at_end, declares}
+use Rattle.hl_source.specs.State.{Context, Progress, State, after, ends_at, first_then, goes_with, variable_words, with_variable}
+use Rattle.hl_source.specs.Statements.{at_end}
 use Rattle.hl_source.specs.Expressions.{evaluates}
 use Rattle.hl_inline.specs.FlatTrees.{Flat, FlatStmt, flat_local}
-use Rattle.hl_inline.specs.FlatLane.{FlatLeaving, flat_context, flat_done, flat_end, performs, then_flat}
-use Rattle.hl_inline.specs.Flattening.{Emitter, Fresh, Valued, Values, any_calls, emit_all, next_of, reading, saved, settled, token_of, unnamed, values_with}
+use Rattle.hl_inline.specs.FlatLane.{FlatLeaving, flat_context, flat_done, flat_end, then_flat}
+use Rattle.hl_inline.specs.Flattening.{Emitter, Fresh, Valued, Values, any_calls, emit_all, next_of, saved, settled, token_of, unnamed, values_with}
 use Rattle.hl_inline.proofs.Induction.{Every}
 use Rattle.hl_inline.proofs.ProgressLemmas.{giving}
 use Rattle.hl_inline.proofs.OperandLemmas.{evaluate_all}
 use Rattle.hl_inline.proofs.Relation.{IsOutside, Keeps, Related, Stands, count_by_sizes, flat_of_context, sizes_at, sizes_in, sizes_set, words_set_other, words_set_same}
-use Rattle.hl_inline.proofs.Reading.{there_by_map}
 use Rattle.hl_inline.proofs.FittingWords.{Fits, fits_length, reading_gives}
-use Rattle.hl_inline.proofs.Performing.{Opens, Runs, Yields, perform, perform_append, perform_ends, perform_next, perform_one}
-
--- fronts of lists of variables
-
-abbrev pub IsFront : List Variable → List Variable → Type 0
-IsFront xs ys = (more : List Variable) × (ys ≡ xs ++ more)
-
-pub front_refl : (xs : List Variable) → IsFront xs xs
-front_refl xs = ([], sym (append-nil xs))
-
-pub front_trans : (xs ys zs : List Variable) → IsFront xs ys → IsFront ys zs → IsFront xs zs
-front_trans xs ys zs (m, e) (n, e') = (m ++ n, e' ∙ (ap (λ l. l ++ n) e ∙ append_assoc xs m n))
-
-pub front_more : (xs more : List Variable) → IsFront xs (xs ++ more)
-front_more xs more = (more, refl)
-
-pub front_length : (xs ys : List Variable) → IsFront xs ys → length xs ≤ length ys
-front_length xs ys (m, e) = omega (arith, ap length e, length-append xs m)
-
--- the variable behind a front
-pub next_variable : (xs V : List Variable) (v : Variable) → IsFront (xs ++ v ∷ []) V → variable_type V (length xs) ≡ Some v.ty
-next_variable xs V v (m, e) =
-    ap (λ l. variable_type l (length xs)) (e ∙ append_assoc xs (v ∷ []) m) ∙ ap (λ o. option_map (λ x. x.ty) o) (get-next xs v m)
+use Rattle.hl_inline.proofs.Performing.{Opens, Runs, Yields, perform, perform_ends, perform_next}
+use Rattle.hl_inline.proofs.Fronts.{IsFront, front_length, front_more, front_refl, front_trans, next_variable, type_there}
 
 -- variables
-
-pub type_there : (V : List Variable) (w : ℕ) (ty : Ty) → variable_type V w ≡ Some ty → w < length V
-type_there V w ty e = there_by_map (λ v. v.ty) V w ty e
 
 -- a variable of a type has its words
 pub variable_size : (c : Context) (V : List Variable) (t : State) (w : ℕ) (ty : Ty) → sizes_at t ≡ sizes_in c V → variable_type V w ≡ Some ty → length (variable_words t w) ≡ words_of c.scope.structs ty
@@ -61,12 +35,10 @@ variable_size c V t w ty sizes typed =
     by_type : (o : Option Variable) → option_map (λ v. v.ty) o ≡ Some ty → option_map (λ v. words_of c.scope.structs v.ty) o ≡ Some (words_of c.scope.structs ty)
     by_type None e = absurd (none-some ty e)
     by_type (Some v) e = ap (λ x. Some (words_of c.scope.structs x)) (same_Some v.ty ty e)
+
     by_words : (o : Option (List ℕ)) → option_map length o ≡ Some (words_of c.scope.structs ty) → length (unwrap_or o []) ≡ words_of c.scope.structs ty
     by_words None e = absurd (none-some (words_of c.scope.structs ty) e)
     by_words (Some ws) e = same_Some (length ws) (words_of c.scope.structs ty) e
-
-pub keeps_less : (first size below more : ℕ) (t u : State) → below ≤ more → Keeps first size more t u → Keeps first size below t u
-keeps_less first size below more t u low keeps w lower outside = keeps w (omega (arith, low, lower)) outside
 
 pub keeps_trans : (first size below more : ℕ) (t u v : State) → below ≤ more → Keeps first size below t u → Keeps first size more u v → Keeps first size below t v
 keeps_trans first size below more t u v low k l w lower outside = l w (omega (arith, low, lower)) outside ∙ k w lower outside
@@ -161,20 +133,25 @@ module _ (c : Context) (V : List Variable) (first : ℕ) (stands : Stands c V fi
     where
       there : variable_type V (next_of x.fresh) ≡ Some (type_of x.value)
       there = next_variable x.fresh.variables V (unnamed (type_of x.value) (token_of x.value)) front
+
       fitting : Fits c.scope.structs (type_of x.value) a
       fitting = subst (λ ty. Fits c.scope.structs ty a) (sym typed) fits
+
       related : Related c V first D s (with_variable (next_of x.fresh) a u)
       related = related_set_other c V first D (next_of x.fresh) a s u stands.below later.0 room
           (fits_length c.scope.structs (type_of x.value) a fitting ∙ sym (variable_size c V u (next_of x.fresh) (type_of x.value) later.0.flat_sizes there))
+
       keeps : Keeps first (length c.scope.variables) below t (with_variable (next_of x.fresh) a u)
       keeps w lower outside = words_set_other (next_of x.fresh) w a u (λ is. omega (arith, is, lower, low)) ∙ later.1 w lower outside
+
       has : variable_words (with_variable (next_of x.fresh) a u) (next_of x.fresh) ≡ a
       has = words_set_same (next_of x.fresh) a u (subst (λ k. next_of x.fresh < k) (sym (count_by_sizes c V u later.0.flat_sizes)) (type_there V (next_of x.fresh) (type_of x.value) there))
+
       stays : (v : State) → KeepsFrom below (next_of (saved x).fresh) (with_variable (next_of x.fresh) a u) v →
           evaluates (flat_of_context c V) (saved x).value v ≡ goes_with a v
       stays v keep =
           reading_gives c V (type_of x.value) (token_of x.value) (next_of x.fresh) a v there fitting (subst (λ ty. words_of c.scope.structs ty ≤ most_words) (sym typed) value.small)
-              (keep (next_of x.fresh) low (omega (arith, length-append x.fresh.variables (unnamed (type_of x.value) (token_of x.value) ∷ []))) ∙ has)
+          (keep (next_of x.fresh) low (omega (arith, length-append x.fresh.variables (unnamed (type_of x.value) (token_of x.value) ∷ []))) ∙ has)
   saving D e x below typed value room low front t (ends_at run) (inl code) fits = perform_ends f lane n x.code _ t run code
   saving D e x below typed value room low front t (ends_at run) (inr (t1, code, m, is)) fits =
       perform_next f lane n x.code _ t t1 code ∙ declares_ends (next_of x.fresh) x.value t1 run is
@@ -206,6 +183,7 @@ module _ (c : Context) (V : List Variable) (first : ℕ) (stands : Stands c V fi
     where
       low : next_of fresh ≤ next_of (em.emit fresh).fresh
       low = front_length fresh.variables (em.emit fresh).fresh.variables (emits.grows fresh)
+
       by_fixed : (b : Bool) → (em.emit fresh).fixed ≡ b → HasRoom fresh (if not b then saved (em.emit fresh) else em.emit fresh).fresh →
           ClosesAs D e fresh (if not b then saved (em.emit fresh) else em.emit fresh)
       by_fixed true is room = emits.closes fresh is room
@@ -217,12 +195,16 @@ module _ (c : Context) (V : List Variable) (first : ℕ) (stands : Stands c V fi
   pub storing : (D : ℕ → Type 0) (w : ℕ) (ty : Ty) (code : List FlatStmt) (value : Expr) (below : ℕ) → first + length c.scope.variables ≤ w → variable_type V w ≡ Some ty → (t : State) (p : Progress (List ℕ)) →
       Opens (Keeps first (length c.scope.variables) below t) (Later c V first D below t) p (perform f lane n code t) (evaluates (flat_of_context c V) value) → Yields (λ a. length a ≡ words_of c.scope.structs ty) p →
       Runs (λ a s u. Related c V first D s u × (variable_words u w ≡ a) × ((v : ℕ) → v < below → IsOutside first (length c.scope.variables) v → (v ≡ w → ⊥) → variable_words u v ≡ variable_words t v)) p
-          (perform f lane n (code ++ flat_local w (Some value) ∷ []) t)
-  storing D w ty code value below high typed t (goes_with a s) (t1, coded, m, (u, is, later)) long =
-      (with_variable w a u, perform_next f lane n code _ t t1 coded ∙ declares_goes w value a t1 u is,
-      (related_set_other c V first D w a s u stands.below later.0 high (long ∙ sym (variable_size c V u w ty later.0.flat_sizes typed)),
+      (perform f lane n (code ++ flat_local w (Some value) ∷ []) t)
+  storing D w ty code value below high typed t (goes_with a s) (t1, coded, m, (u, is, later)) long = (
+    with_variable w a u,
+    perform_next f lane n code _ t t1 coded ∙ declares_goes w value a t1 u is,
+    (
+      related_set_other c V first D w a s u stands.below later.0 high (long ∙ sym (variable_size c V u w ty later.0.flat_sizes typed)),
       words_set_same w a u (subst (λ k. w < k) (sym (count_by_sizes c V u later.0.flat_sizes)) (type_there V w ty typed)),
-      λ v lower outside apart. words_set_other w v a u apart ∙ later.1 v lower outside))
+      λ v lower outside apart. words_set_other w v a u apart ∙ later.1 v lower outside,
+    ),
+  )
   storing D w ty code value below high typed t (ends_at run) (inl coded) long = perform_ends f lane n code _ t run coded
   storing D w ty code value below high typed t (ends_at run) (inr (t1, coded, m, is)) long = perform_next f lane n code _ t t1 coded ∙ declares_ends w value t1 run is
 
@@ -234,8 +216,8 @@ module _ (c : Context) (V : List Variable) (first : ℕ) (stands : Stands c V fi
   all_grow D em (e ∷ es) emits further fresh =
       front_trans fresh.variables ((em e).emit fresh).fresh.variables _ (emits.0.grows fresh)
       (front_trans ((em e).emit fresh).fresh.variables (settled (further || any_calls (map em es)) ((em e).emit fresh)).fresh.variables _
-          (settled_grows (further || any_calls (map em es)) ((em e).emit fresh))
-          (all_grow D em es emits.1 further (settled (further || any_calls (map em es)) ((em e).emit fresh)).fresh))
+      (settled_grows (further || any_calls (map em es)) ((em e).emit fresh))
+      (all_grow D em es emits.1 further (settled (further || any_calls (map em es)) ((em e).emit fresh)).fresh))
 
   pub all_names : (D : ℕ → Type 0) (em : Expr → Emitter) (es : List Expr) → Every (λ e. Emits D e (em e)) es → (further : Bool) (fresh : Fresh) →
       fresh.names ≤ (emit_all further (map em es) fresh).fresh.names
@@ -248,7 +230,7 @@ module _ (c : Context) (V : List Variable) (first : ℕ) (stands : Stands c V fi
   all_typed D em [] emits further fresh = refl
   all_typed D em (e ∷ es) emits further fresh =
       ap (λ ty. ty ∷ map type_of (emit_all further (map em es) (settled (further || any_calls (map em es)) ((em e).emit fresh)).fresh).values)
-          (settled_typed (further || any_calls (map em es)) ((em e).emit fresh) ∙ emits.0.typed fresh) ∙
+      (settled_typed (further || any_calls (map em es)) ((em e).emit fresh) ∙ emits.0.typed fresh) ∙
       ap (λ tys. type_of e ∷ tys) (all_typed D em es emits.1 further (settled (further || any_calls (map em es)) ((em e).emit fresh)).fresh)
 
   or_false : (a b : Bool) → (a || b) ≡ false → (a ≡ false) × (b ≡ false)
@@ -275,40 +257,50 @@ module _ (c : Context) (V : List Variable) (first : ℕ) (stands : Stands c V fi
     where
       x : Valued
       x = settled true ((em e).emit fresh)
+
       y : Values
       y = emit_all true (map em es) (settled true ((em e).emit fresh)).fresh
+
       rest_grows : IsFront (settled true ((em e).emit fresh)).fresh.variables (emit_all true (map em es) (settled true ((em e).emit fresh)).fresh).fresh.variables
       rest_grows = all_grow D em es emits.1 true (settled true ((em e).emit fresh)).fresh
+
       low : next_of fresh ≤ next_of (settled true ((em e).emit fresh)).fresh
       low = front_length fresh.variables (settled true ((em e).emit fresh)).fresh.variables
           (front_trans fresh.variables ((em e).emit fresh).fresh.variables (settled true ((em e).emit fresh)).fresh.variables (emits.0.grows fresh) (settled_grows true ((em e).emit fresh)))
+
       lower : next_of (settled true ((em e).emit fresh)).fresh ≤ next_of (emit_all true (map em es) (settled true ((em e).emit fresh)).fresh).fresh
       lower = front_length (settled true ((em e).emit fresh)).fresh.variables _ rest_grows
+
       by_rest : (a : List ℕ) (s1 t1 : State) → perform f lane n (settled true ((em e).emit fresh)).code t ≡ goes_with flat_end t1 →
           Stays c V first D (next_of fresh) (next_of (settled true ((em e).emit fresh)).fresh) t (evaluates (flat_of_context c V) (settled true ((em e).emit fresh)).value) a s1 t1 →
           (p : Progress (List (List ℕ))) →
           Runs (Stays c V first D (next_of (settled true ((em e).emit fresh)).fresh) (next_of (emit_all true (map em es) (settled true ((em e).emit fresh)).fresh).fresh) t1
-              (evaluate_all (flat_of_context c V) (emit_all true (map em es) (settled true ((em e).emit fresh)).fresh).values)) p
-              (perform f lane n (emit_all true (map em es) (settled true ((em e).emit fresh)).fresh).code t1) →
+          (evaluate_all (flat_of_context c V) (emit_all true (map em es) (settled true ((em e).emit fresh)).fresh).values)) p
+          (perform f lane n (emit_all true (map em es) (settled true ((em e).emit fresh)).fresh).code t1) →
           Runs (Stays c V first D (next_of fresh) (next_of (emit_all true (map em (e ∷ es)) fresh).fresh) t (evaluate_all (flat_of_context c V) (emit_all true (map em (e ∷ es)) fresh).values))
-              (giving (λ as_rest. a ∷ as_rest) p) (perform f lane n (emit_all true (map em (e ∷ es)) fresh).code t)
-      by_rest a s1 t1 code stay (goes_with as_rest s2) (t2, code2, (later2, stay2)) =
-          (t2, perform_next f lane n x.code y.code t t1 code ∙ code2,
-          ((later2.0, keeps_trans first (length c.scope.variables) (next_of fresh) (next_of x.fresh) t t1 t2 low stay.0.1 later2.1),
+          (giving (λ as_rest. a ∷ as_rest) p) (perform f lane n (emit_all true (map em (e ∷ es)) fresh).code t)
+      by_rest a s1 t1 code stay (goes_with as_rest s2) (t2, code2, (later2, stay2)) = (
+        t2,
+        perform_next f lane n x.code y.code t t1 code ∙ code2,
+        (
+          (later2.0, keeps_trans first (length c.scope.variables) (next_of fresh) (next_of x.fresh) t t1 t2 low stay.0.1 later2.1),
           λ v keep.
               ap (λ p. first_then p (evaluate_all (flat_of_context c V) y.values)) (stay.1 v (keeps_from_trans (next_of fresh) (next_of x.fresh) (next_of y.fresh) t1 t2 v lower
-                  (keeps_from first (length c.scope.variables) (next_of fresh) (next_of x.fresh) t1 t2 room.0 later2.1) keep)) ∙
-              ap (giving (λ r. a ∷ r)) (stay2 v (keeps_from_more (next_of fresh) (next_of x.fresh) (next_of y.fresh) t2 v low keep))))
+              (keeps_from first (length c.scope.variables) (next_of fresh) (next_of x.fresh) t1 t2 room.0 later2.1) keep)) ∙
+              ap (giving (λ r. a ∷ r)) (stay2 v (keeps_from_more (next_of fresh) (next_of x.fresh) (next_of y.fresh) t2 v low keep)),
+        ),
+      )
       by_rest a s1 t1 code stay (ends_at run) code2 = perform_next f lane n x.code y.code t t1 code ∙ code2
+
       by_first : ((s1 t1 : State) → Related c V first D s1 t1 →
-              Runs (Stays c V first D (next_of (settled true ((em e).emit fresh)).fresh) (next_of (emit_all true (map em es) (settled true ((em e).emit fresh)).fresh).fresh) t1
-                  (evaluate_all (flat_of_context c V) (emit_all true (map em es) (settled true ((em e).emit fresh)).fresh).values)) (evaluate_all c es s1)
-                  (perform f lane n (emit_all true (map em es) (settled true ((em e).emit fresh)).fresh).code t1)) →
+          Runs (Stays c V first D (next_of (settled true ((em e).emit fresh)).fresh) (next_of (emit_all true (map em es) (settled true ((em e).emit fresh)).fresh).fresh) t1
+          (evaluate_all (flat_of_context c V) (emit_all true (map em es) (settled true ((em e).emit fresh)).fresh).values)) (evaluate_all c es s1)
+          (perform f lane n (emit_all true (map em es) (settled true ((em e).emit fresh)).fresh).code t1)) →
           (p : Progress (List ℕ)) →
           Runs (Stays c V first D (next_of fresh) (next_of (settled true ((em e).emit fresh)).fresh) t (evaluates (flat_of_context c V) (settled true ((em e).emit fresh)).value)) p
-              (perform f lane n (settled true ((em e).emit fresh)).code t) →
+          (perform f lane n (settled true ((em e).emit fresh)).code t) →
           Runs (Stays c V first D (next_of fresh) (next_of (emit_all true (map em (e ∷ es)) fresh).fresh) t (evaluate_all (flat_of_context c V) (emit_all true (map em (e ∷ es)) fresh).values))
-              (first_then p (evaluate_all c es)) (perform f lane n (emit_all true (map em (e ∷ es)) fresh).code t)
+          (first_then p (evaluate_all c es)) (perform f lane n (emit_all true (map em (e ∷ es)) fresh).code t)
       by_first next (goes_with a s1) (t1, code, stay) = by_rest a s1 t1 code stay (evaluate_all c es s1) (next s1 t1 stay.0.0)
       by_first next (ends_at run) code = perform_ends f lane n x.code y.code t run code
 
@@ -330,14 +322,24 @@ module _ (c : Context) (V : List Variable) (first : ℕ) (stands : Stands c V fi
         ((v : State) → KeepsFrom below (next_of x.fresh) t1 v → evaluates (flat_of_context c V) x.value v ≡ goes_with a v) → (p : Progress (List (List ℕ))) →
         Opens (Keeps first (length c.scope.variables) (next_of x.fresh) t1) (Later c V first D (next_of x.fresh) t1) p (perform f lane n y.code t1) (evaluate_all (flat_of_context c V) y.values) →
         Opens (Keeps first (length c.scope.variables) below t) (Later c V first D below t) (giving (λ r. a ∷ r) p) (perform f lane n (x.code ++ y.code) t) (evaluate_all (flat_of_context c V) (x.value ∷ y.values))
-    opens_stayed a t1 code keep stay (goes_with as_rest s2) (t2, code2, m2, (u, is, later)) =
-        (t2, perform_next f lane n x.code y.code t t1 code ∙ code2, keeps_trans first (length c.scope.variables) below (next_of x.fresh) t t1 t2 low keep m2,
-        (u, ap (λ p. first_then p (evaluate_all (flat_of_context c V) y.values)) (stay t2 (keeps_from first (length c.scope.variables) below (next_of x.fresh) t1 t2 room m2)) ∙ ap (giving (λ r. a ∷ r)) is,
-        (later.0, keeps_trans first (length c.scope.variables) below (next_of x.fresh) t t1 u low keep later.1)))
+    opens_stayed a t1 code keep stay (goes_with as_rest s2) (t2, code2, m2, (u, is, later)) = (
+      t2,
+      perform_next f lane n x.code y.code t t1 code ∙ code2,
+      keeps_trans first (length c.scope.variables) below (next_of x.fresh) t t1 t2 low keep m2,
+      (
+        u,
+        ap (λ p. first_then p (evaluate_all (flat_of_context c V) y.values)) (stay t2 (keeps_from first (length c.scope.variables) below (next_of x.fresh) t1 t2 room m2)) ∙ ap (giving (λ r. a ∷ r)) is,
+        (later.0, keeps_trans first (length c.scope.variables) below (next_of x.fresh) t t1 u low keep later.1),
+      ),
+    )
     opens_stayed a t1 code keep stay (ends_at run) (inl code2) = inl (perform_next f lane n x.code y.code t t1 code ∙ code2)
     opens_stayed a t1 code keep stay (ends_at run) (inr (t2, code2, m2, is)) =
-        inr (t2, perform_next f lane n x.code y.code t t1 code ∙ code2, keeps_trans first (length c.scope.variables) below (next_of x.fresh) t t1 t2 low keep m2,
-        ap (λ p. first_then p (evaluate_all (flat_of_context c V) y.values)) (stay t2 (keeps_from first (length c.scope.variables) below (next_of x.fresh) t1 t2 room m2)) ∙ ap (giving (λ r. a ∷ r)) is)
+        inr (
+          t2,
+          perform_next f lane n x.code y.code t t1 code ∙ code2,
+          keeps_trans first (length c.scope.variables) below (next_of x.fresh) t t1 t2 low keep m2,
+          ap (λ p. first_then p (evaluate_all (flat_of_context c V) y.values)) (stay t2 (keeps_from first (length c.scope.variables) below (next_of x.fresh) t1 t2 room m2)) ∙ ap (giving (λ r. a ∷ r)) is,
+        )
 
     -- the others have no code
     opens_quiet : y.code ≡ [] → (a : List ℕ) (t1 u : State) → perform f lane n x.code t ≡ goes_with flat_end t1 → Keeps first (length c.scope.variables) below t t1 →
@@ -349,11 +351,19 @@ module _ (c : Context) (V : List Variable) (first : ℕ) (stands : Stands c V fi
       where
         whole : perform f lane n (x.code ++ y.code) t ≡ goes_with flat_end t1
         whole = ap (λ l. perform f lane n (x.code ++ l) t) quiet ∙ (ap (λ l. perform f lane n l t) (append-nil x.code) ∙ code)
+
         by_part : (p : Progress (List (List ℕ))) → Opens (Keeps first (length c.scope.variables) (next_of x.fresh) u) (Later c V first D (next_of x.fresh) u) p (goes_with flat_end u) (evaluate_all (flat_of_context c V) y.values) →
             Opens (Keeps first (length c.scope.variables) below t) (Later c V first D below t) (giving (λ r. a ∷ r) p) (perform f lane n (x.code ++ y.code) t) (evaluate_all (flat_of_context c V) (x.value ∷ y.values))
-        by_part (goes_with as_rest s2) (t2, e2, m2, (u2, is2, later2)) =
-            (t1, whole, keep, (u2, ap (λ p. first_then p (evaluate_all (flat_of_context c V) y.values)) is ∙ ap (giving (λ r. a ∷ r)) (ap (evaluate_all (flat_of_context c V) y.values) (same_end u t2 e2) ∙ is2),
-            (later2.0, keeps_trans first (length c.scope.variables) below (next_of x.fresh) t u u2 low keep_u later2.1)))
+        by_part (goes_with as_rest s2) (t2, e2, m2, (u2, is2, later2)) = (
+          t1,
+          whole,
+          keep,
+          (
+            u2,
+            ap (λ p. first_then p (evaluate_all (flat_of_context c V) y.values)) is ∙ ap (giving (λ r. a ∷ r)) (ap (evaluate_all (flat_of_context c V) y.values) (same_end u t2 e2) ∙ is2),
+            (later2.0, keeps_trans first (length c.scope.variables) below (next_of x.fresh) t u u2 low keep_u later2.1),
+          ),
+        )
         by_part (ends_at run) (inl e) = absurd (no_end u run e)
         by_part (ends_at run) (inr (t2, e2, m2, is2)) =
             inr (t1, whole, keep, ap (λ p. first_then p (evaluate_all (flat_of_context c V) y.values)) is ∙ ap (giving (λ r. a ∷ r)) (ap (evaluate_all (flat_of_context c V) y.values) (same_end u t2 e2) ∙ is2))
@@ -361,14 +371,14 @@ module _ (c : Context) (V : List Variable) (first : ℕ) (stands : Stands c V fi
     -- after the first operand, which stays or not
     stayed_first : (p : Progress (List ℕ)) → Runs (Stays c V first D below (next_of x.fresh) t (evaluates (flat_of_context c V) x.value)) p (perform f lane n x.code t) →
         ((s1 t1 : State) → Related c V first D s1 t1 →
-            Opens (Keeps first (length c.scope.variables) (next_of x.fresh) t1) (Later c V first D (next_of x.fresh) t1) (rest s1) (perform f lane n y.code t1) (evaluate_all (flat_of_context c V) y.values)) →
+        Opens (Keeps first (length c.scope.variables) (next_of x.fresh) t1) (Later c V first D (next_of x.fresh) t1) (rest s1) (perform f lane n y.code t1) (evaluate_all (flat_of_context c V) y.values)) →
         Opens (Keeps first (length c.scope.variables) below t) (Later c V first D below t) (first_then p rest) (perform f lane n (x.code ++ y.code) t) (evaluate_all (flat_of_context c V) (x.value ∷ y.values))
     stayed_first (goes_with a s1) (t1, code, stay) next = opens_stayed a t1 code stay.0.1 stay.1 (rest s1) (next s1 t1 stay.0.0)
     stayed_first (ends_at run) code next = inl (perform_ends f lane n x.code y.code t run code)
 
     quiet_first : y.code ≡ [] → (p : Progress (List ℕ)) → Opens (Keeps first (length c.scope.variables) below t) (Later c V first D below t) p (perform f lane n x.code t) (evaluates (flat_of_context c V) x.value) →
         ((s1 t1 : State) → Related c V first D s1 t1 →
-            Opens (Keeps first (length c.scope.variables) (next_of x.fresh) t1) (Later c V first D (next_of x.fresh) t1) (rest s1) (perform f lane n y.code t1) (evaluate_all (flat_of_context c V) y.values)) →
+        Opens (Keeps first (length c.scope.variables) (next_of x.fresh) t1) (Later c V first D (next_of x.fresh) t1) (rest s1) (perform f lane n y.code t1) (evaluate_all (flat_of_context c V) y.values)) →
         Opens (Keeps first (length c.scope.variables) below t) (Later c V first D below t) (first_then p rest) (perform f lane n (x.code ++ y.code) t) (evaluate_all (flat_of_context c V) (x.value ∷ y.values))
     quiet_first quiet (goes_with a s1) (t1, code, m, (u, is, later)) next = opens_quiet quiet a t1 u code m is later.1 (rest s1) (next s1 u later.0)
     quiet_first quiet (ends_at run) (inl code) next = inl (perform_ends f lane n x.code y.code t run code)
@@ -378,7 +388,7 @@ module _ (c : Context) (V : List Variable) (first : ℕ) (stands : Stands c V fi
   pub all_open : (D : ℕ → Type 0) (em : Expr → Emitter) (es : List Expr) → Every (λ e. Emits D e (em e)) es → Every (HasValue c) es → (fresh : Fresh) →
       HasRoom fresh (emit_all false (map em es) fresh).fresh → (s t : State) → Related c V first D s t →
       Opens (Keeps first (length c.scope.variables) (next_of fresh) t) (Later c V first D (next_of fresh) t) (evaluate_all c es s) (perform f lane n (emit_all false (map em es) fresh).code t)
-          (evaluate_all (flat_of_context c V) (emit_all false (map em es) fresh).values)
+      (evaluate_all (flat_of_context c V) (emit_all false (map em es) fresh).values)
   all_open D em [] emits value fresh room s t r =
       (t, refl, keeps_refl first (length c.scope.variables) (next_of fresh) t, (t, refl, (r, keeps_refl first (length c.scope.variables) (next_of fresh) t)))
   all_open D em (e ∷ es) emits value fresh room s t r =
@@ -386,10 +396,10 @@ module _ (c : Context) (V : List Variable) (first : ℕ) (stands : Stands c V fi
     where
       by_calls : (b : Bool) → any_calls (map em es) ≡ b → HasRoom fresh (from_one_on b ((em e).emit fresh) (map em es)).fresh →
           ((fresh' : Fresh) → HasRoom fresh' (emit_all false (map em es) fresh').fresh → (s1 t1 : State) → Related c V first D s1 t1 →
-              Opens (Keeps first (length c.scope.variables) (next_of fresh') t1) (Later c V first D (next_of fresh') t1) (evaluate_all c es s1) (perform f lane n (emit_all false (map em es) fresh').code t1)
-                  (evaluate_all (flat_of_context c V) (emit_all false (map em es) fresh').values)) →
+          Opens (Keeps first (length c.scope.variables) (next_of fresh') t1) (Later c V first D (next_of fresh') t1) (evaluate_all c es s1) (perform f lane n (emit_all false (map em es) fresh').code t1)
+          (evaluate_all (flat_of_context c V) (emit_all false (map em es) fresh').values)) →
           Opens (Keeps first (length c.scope.variables) (next_of fresh) t) (Later c V first D (next_of fresh) t) (evaluate_all c (e ∷ es) s) (perform f lane n (from_one_on b ((em e).emit fresh) (map em es)).code t)
-              (evaluate_all (flat_of_context c V) (from_one_on b ((em e).emit fresh) (map em es)).values)
+          (evaluate_all (flat_of_context c V) (from_one_on b ((em e).emit fresh) (map em es)).values)
       by_calls true calls room next =
           let x : Valued = settled true ((em e).emit fresh) in
           let y : Values = emit_all false (map em es) x.fresh in
@@ -397,13 +407,13 @@ module _ (c : Context) (V : List Variable) (first : ℕ) (stands : Stands c V fi
           let low : next_of fresh ≤ next_of x.fresh =
           front_length fresh.variables x.fresh.variables (front_trans fresh.variables ((em e).emit fresh).fresh.variables x.fresh.variables (emits.0.grows fresh) (settled_grows true ((em e).emit fresh))) in
           stayed_first D x y (next_of fresh) room.0 low t (evaluate_all c es) (evaluates c e s)
-              (settling D e (em e) emits.0 value.0 fresh (room.0, front_trans x.fresh.variables y.fresh.variables V grown room.1) s t r)
-              (next x.fresh (omega (arith, room.0, low), room.1))
+          (settling D e (em e) emits.0 value.0 fresh (room.0, front_trans x.fresh.variables y.fresh.variables V grown room.1) s t r)
+          (next x.fresh (omega (arith, room.0, low), room.1))
       by_calls false calls room next =
           let x : Valued = (em e).emit fresh in
           let y : Values = emit_all false (map em es) x.fresh in
           let grown : IsFront x.fresh.variables y.fresh.variables = all_grow D em es emits.1 false x.fresh in
           let low : next_of fresh ≤ next_of x.fresh = front_length fresh.variables x.fresh.variables (emits.0.grows fresh) in
           quiet_first D x y (next_of fresh) room.0 low t (evaluate_all c es) (all_quiet D em es emits.1 calls x.fresh) (evaluates c e s)
-              (emits.0.opens fresh (room.0, front_trans x.fresh.variables y.fresh.variables V grown room.1) s t r)
-              (next x.fresh (omega (arith, room.0, low), room.1))
+          (emits.0.opens fresh (room.0, front_trans x.fresh.variables y.fresh.variables V grown room.1) s t r)
+          (next x.fresh (omega (arith, room.0, low), room.1))

@@ -1,5 +1,5 @@
 -- What becomes of an expression does what the expression does.
-use Rattle.std.proofs.Common.{◌≡◌, ◌∙◌, refl, sym, ap, subst, ℕ, zero, suc, ◌+◌, ◌<◌, ◌≤◌, Bool, true, false, List, [], ◌∷◌, ◌++◌, map, length, Option, None, Some, slice_get, arith}
+use Rattle.std.proofs.Common.{◌≡◌, ◌∙◌, refl, sym, ap, subst, ℕ, suc, ◌≤◌, false, List, [], ◌∷◌, map, length, Option, None, Some, slice_get}
 use Rattle.std.specs.Prelude.{option_map, slice_index_or}
 use Rattle.std.specs.Option.{option_map_or}
 use Rattle.std.proofs.lemmas.Option.{none-some, same_Some}
@@ -8,31 +8,27 @@ use Rattle.hl_meaning.specs.declared.program.Copying.{Copying}
 use Rattle.hl_meaning.specs.declared.program.Copying.TheVariants.{CopyBoth, CopyIn, CopyOut}
 use Rattle.hl_meaning.specs.declared.program.Parameter.{Parameter}
 use Rattle.hl_meaning.specs.Types.{Ty, is_void}
-use Rattle.hl_meaning.specs.Trees.{Arg, Args, Expr, Form, Location, an_expr, atomic_form, binary_form, build_form, call_form, choose_form, convert_form, intrinsic_form, literal_form, method_form, more_args, no_args, pick_form, place_arg, place_type, read_form, type_of, unary_form, value_arg, write_form}
+use Rattle.hl_meaning.specs.Trees.{Arg, Args, Expr, Form, Location, an_expr, atomic_form, binary_form, build_form, call_form, choose_form, convert_form, intrinsic_form, literal_form, method_form, more_args, no_args, pick_form, place_arg, read_form, unary_form, value_arg, write_form}
 use Rattle.hl_meaning.specs.Places.{Scope, variable_type}
 use Rattle.hl_meaning.specs.Programs.{FunctionDef, Variable}
-use Rattle.hl_meaning.specs.WellFormed.{AreNumberedFrom, ArePassed, IsExpr, IsForm, IsPassed, IsPlace, Param, callee_params, callee_result, param_of, params_of}
+use Rattle.hl_meaning.specs.WellFormed.{AreNumberedFrom, ArePassed, IsExpr, IsForm, IsPassed, IsPlace, callee_params, callee_result, param_of}
 use Rattle.hl_source.specs.State.{Context}
-use Rattle.hl_source.specs.Expressions.{no_callee, parameters_of}
+use Rattle.hl_source.specs.Expressions.{no_callee}
 use Rattle.hl_inline.specs.FlatTrees.{Flat}
 use Rattle.hl_inline.specs.FlatLane.{flat_context}
 use Rattle.hl_inline.specs.IndexedVariables.{arg_mentions, args_mentions, call_mention, form_mentions, location_mentions}
 use Rattle.hl_inline.specs.Operands.{arg_exprs, args_exprs, operand_exprs, place_exprs}
-use Rattle.hl_inline.specs.Flattening.{Emitter, Inlined, Instance, call, emitter, form_emitter, inlined_at}
+use Rattle.hl_inline.specs.Flattening.{Inlined, Instance, call, emitter, inlined_at}
 use Rattle.hl_inline.proofs.Induction.{Every, Step, by_operands, every_operand, every_back, every_front, every_map}
-use Rattle.hl_inline.proofs.OperandLemmas.{form_emitter_all, is_call_form}
+use Rattle.hl_inline.proofs.OperandLemmas.{form_emitter_all, is_call_form, args_emitters_all}
 use Rattle.hl_inline.proofs.Relation.{Stands, flat_of_context}
 use Rattle.hl_inline.proofs.Reading.{IsChangedPlace}
 use Rattle.hl_inline.proofs.Emission.{Emits, HasValue}
 use Rattle.hl_inline.proofs.Nodes.{node_emits}
-use Rattle.hl_inline.proofs.Passing.{ArgReady, ArgsReady, ArgsTyped, HasPlaceValue, arg_type, args_by, args_emitters_all}
+use Rattle.hl_inline.proofs.Passing.{ArgReady, ArgsReady, ArgsTyped, HasPlaceValue, arg_type}
 use Rattle.hl_inline.proofs.Calls.{CallReady, Inlines, call_emits}
 use Rattle.hl_inline.proofs.Typed.{IsSome, IsValue, ParamsSome, form_values, place_values}
 use Rattle.hl_inline.proofs.Covered.{Covers, CoversExpr, MentionIn, form_in, operands_covered, place_changed, place_covered, place_in}
-
-every_both : {A : Type 0} (P Q : A → Type 0) (xs : List A) → Every P xs → Every Q xs → Every (λ x. P x × Q x) xs
-every_both P Q [] p q = tt
-every_both P Q (x ∷ xs) p q = ((p.0, q.0), every_both P Q xs p.1 q.1)
 
 -- a function that may be called, with what becomes of it
 pub record CalleeIn (c : Context) (V : List Variable) (f : Flat) (lane : Lane) (n : ℕ) (function : ℕ) (d : FunctionDef) (g : Inlined) : Type 0 where
@@ -57,6 +53,7 @@ typed_from s variables number (p ∷ parameters) args numbered h =
     passed_type ty CopyOut (place_arg place) h = h.2
     passed_type ty CopyBoth (value_arg value) h = absurd h
     passed_type ty CopyBoth (place_arg place) h = h.2
+
     by_type : ((rest : Args) → ArePassed s (map (param_of variables) parameters) rest → ArgsTyped variables (suc number) rest) → (o : Option Ty) → variable_type variables p.variable ≡ o →
         (args : Args) → ArePassed s (option_map (λ ty. record { ty = ty; copying = p.copying }) o ∷ map (param_of variables) parameters) args → ArgsTyped variables number args
     by_type next None is no_args h = tt
@@ -85,7 +82,7 @@ module _ (c : Context) (V : List Variable) (first : ℕ) (stands : Stands c V fi
       let values = form_values c.scope some_params ty form h.1 in
       subst (Emits c V first stands f lane n known D (an_expr ty at form)) (sym (form_emitter_all k i ty at form plain))
       (node_emits c V first stands f lane n known D i ty at form (emitter k i) is plain (form_in c D ty form h.1 covers)
-          (emitting_all (operand_exprs form) emitting values (operands_covered D form covers)) (values_all (operand_exprs form) values))
+      (emitting_all (operand_exprs form) emitting values (operands_covered D form covers)) (values_all (operand_exprs form) values))
 
   plain_step : (ty : Ty) (at : ℕ) (form : Form) → is_call_form form ≡ false → Every Emitting (operand_exprs form) → Emitting (an_expr ty at form)
   plain_step ty at form plain emitting value covers = plain_emits ty at form plain emitting value.0 covers
@@ -116,7 +113,7 @@ module _ (c : Context) (V : List Variable) (first : ℕ) (stands : Stands c V fi
       by_type (Some ty) h = h
   args_ready_from variables (p ∷ parameters) (more_args arg rest) some h emitting covers =
       by_type (λ some h. args_ready_from variables parameters rest some h (every_back Emitting (arg_exprs arg) (args_exprs rest) emitting) (every_back (MentionIn D) (arg_mentions arg) (args_mentions rest) covers))
-          (variable_type variables p.variable) some h
+      (variable_type variables p.variable) some h
     where
       by_type : (ParamsSome (map (param_of variables) parameters) → ArePassed c.scope (map (param_of variables) parameters) rest → ArgsReady c V first stands f lane n known D (emitter k i) rest parameters) →
           (o : Option Ty) → ParamsSome (option_map (λ ty. record { ty = ty; copying = p.copying }) o ∷ map (param_of variables) parameters) →
@@ -151,7 +148,7 @@ module _ (c : Context) (V : List Variable) (first : ℕ) (stands : Stands c V fi
   call_step ty at function args emitting value covers =
       subst (λ l. Emits c V first stands f lane n known D (an_expr ty at (call_form function args)) (call i ty at (inlined_at k function) l)) (sym (args_emitters_all k i args))
       (call_emits c V first stands f lane n known D (emitter k i) i is ty at function args (inlined_at k function) (call_ready ty function args value.0.1 emitting covers)
-          (sound (an_expr ty at (call_form function args)) value.0) value.1)
+      (sound (an_expr ty at (call_form function args)) value.0) value.1)
 
   emitting_step : Step Emitting
   emitting_step ty at (literal_form word) emitting = plain_step ty at (literal_form word) refl emitting

@@ -1,13 +1,12 @@
 -- A form with other expressions in place of its operands.
-use Rattle.std.proofs.Common.{◌≡◌, ◌∙◌, refl, sym, ap, subst, ℕ, suc, ◌+◌, Bool, true, false, List, [], ◌∷◌, ◌++◌, map, length, drop, take, arith}
-use Rattle.std.proofs.lemmas.List.{append_assoc, append-nil, length-append, take-append-drop, length-drop, length-take}
+use Rattle.std.proofs.Common.{◌≡◌, ◌∙◌, refl, sym, ap, subst, ℕ, suc, ◌+◌, false, List, [], ◌∷◌, ◌++◌, length, drop, take, arith}
+use Rattle.std.proofs.lemmas.List.{append-nil, length-append, take-append-drop, length-drop, length-take}
 use Rattle.std.proofs.lemmas.Bool.{true≢false}
-use Rattle.std.proofs.Math.Seq.{drop-append_seam, take-append_seam}
+use Rattle.std.proofs.Math.Seq.{drop-append_seam}
 use Rattle.std.specs.List.{concat}
-use Rattle.hl_meaning.specs.Types.{Ty}
-use Rattle.hl_meaning.specs.Trees.{Arg, Args, Expr, Exprs, Form, Location, MaybeExpr, MaybeLocation, PathPart, PathParts, Root, Target, a_location, an_expr, atomic_form, binary_form, build_form, bytes_target, call_form, choose_form, constant_root, convert_form, element_root, index_part, intrinsic_form, literal_form, member_part, method_form, more_args, more_exprs, more_parts, no_args, no_expr, no_exprs, no_location, no_parts, pick_form, place_arg, place_target, read_form, shared_root, some_expr, some_location, swizzle_part, unary_form, value_arg, variable_root, write_form}
+use Rattle.hl_meaning.specs.Trees.{Expr, Form, Location, MaybeExpr, MaybeLocation, PathParts, Target, a_location, atomic_form, binary_form, build_form, bytes_target, call_form, choose_form, constant_root, convert_form, element_root, index_part, intrinsic_form, literal_form, member_part, method_form, more_parts, no_expr, no_location, no_parts, pick_form, place_target, read_form, shared_root, some_expr, some_location, swizzle_part, unary_form, variable_root, write_form, place_type}
 use Rattle.hl_meaning.specs.Views.{exprs_of}
-use Rattle.hl_inline.specs.Operands.{args_exprs, behind_expr_if, behind_root, behind_target, expr_if_list, exprs_list, filled, filled_expr_if, filled_parts, filled_place, filled_place_if, filled_root, filled_target, first_expr, operand_exprs, parts_exprs, place_exprs, place_if_exprs, root_exprs, target_exprs}
+use Rattle.hl_inline.specs.Operands.{behind_expr_if, behind_target, expr_if_list, exprs_list, filled, filled_expr_if, filled_parts, filled_place, filled_place_if, filled_target, first_expr, operand_exprs, parts_exprs, place_exprs, place_if_exprs, target_exprs}
 use Rattle.hl_inline.proofs.OperandLemmas.{grouped, grouped_atomic, is_call_form}
 
 -- lists of a length
@@ -102,6 +101,7 @@ filled_operands first (write_form to op common value old) es _ e = by_cut (cut (
         ap (λ l. l ++ first_expr (drop (length (place_exprs to)) (front ++ back)) ∷ []) (place_filled first to front back f) ∙
         (ap (λ l. front ++ first_expr l ∷ []) (behind_filled (length (place_exprs to)) front back f) ∙
         ap (λ l. front ++ l) (ap (λ l. first_expr l ∷ []) (one_of back b).1 ∙ sym (one_of back b).1))
+
     by_cut : Cut (length (place_exprs to)) 1 es → operand_exprs (filled first (write_form to op common value old) es) ≡ es
     by_cut c = subst (λ l. operand_exprs (filled first (write_form to op common value old) l) ≡ l) (sym c.whole) (whole c.front c.back c.front_length c.back_length)
 filled_operands first (convert_form value) es _ e = ap (λ l. first_expr l ∷ []) (one_of es e).1 ∙ sym (one_of es e).1
@@ -139,24 +139,32 @@ filled_operands first (atomic_form target kind compare value original) es _ e =
         (ap (λ l. expr_if_list (filled_expr_if compare (middle ++ x ∷ end)) ++ first_expr l ∷ place_if_exprs (filled_place_if first original (drop 1 l))) (behind_expr_if_filled compare middle (x ∷ end) m) ∙
         (ap (λ l. l ++ x ∷ place_if_exprs (filled_place_if first original end)) (expr_if_filled compare middle (x ∷ end) m) ∙
         ap (λ l. middle ++ x ∷ l) (place_if_filled first original end n)))
+
     by_end : (middle end : List Expr) → length middle ≡ length (expr_if_list compare) → length end ≡ suc (length (place_if_exprs original)) → (es1 : List Expr) → es1 ≡ middle ++ end →
         expr_if_list (filled_expr_if compare es1) ++ first_expr (behind_expr_if compare es1) ∷ place_if_exprs (filled_place_if first original (drop 1 (behind_expr_if compare es1))) ≡ es1
     by_end middle [] m n es1 is = absurd (omega (arith, n))
     by_end middle (x ∷ end) m n es1 is = last middle x end m (omega (arith, n)) es1 is
+
     by_middle : (es1 : List Expr) → Cut (length (expr_if_list compare)) (suc (length (place_if_exprs original))) es1 →
         expr_if_list (filled_expr_if compare es1) ++ first_expr (behind_expr_if compare es1) ∷ place_if_exprs (filled_place_if first original (drop 1 (behind_expr_if compare es1))) ≡ es1
     by_middle es1 c = by_end c.front c.back c.front_length c.back_length es1 c.whole
+
     whole : (front back : List Expr) → length front ≡ length (target_exprs target) → length back ≡ length (expr_if_list compare ++ value ∷ place_if_exprs original) →
         operand_exprs (filled first (atomic_form target kind compare value original) (front ++ back)) ≡ front ++ back
     whole front back f b =
         ap (λ l. l ++ (expr_if_list (filled_expr_if compare (behind_target target (front ++ back))) ++ first_expr (behind_expr_if compare (behind_target target (front ++ back))) ∷
-            place_if_exprs (filled_place_if first original (drop 1 (behind_expr_if compare (behind_target target (front ++ back))))))) (target_filled first target front back f) ∙
+        place_if_exprs (filled_place_if first original (drop 1 (behind_expr_if compare (behind_target target (front ++ back))))))) (target_filled first target front back f) ∙
         ap (λ l. front ++ l)
-            (ap (λ l. expr_if_list (filled_expr_if compare l) ++ first_expr (behind_expr_if compare l) ∷ place_if_exprs (filled_place_if first original (drop 1 (behind_expr_if compare l)))) (behind_filled (length (target_exprs target)) front back f) ∙
-            by_middle back (cut (length (expr_if_list compare)) (suc (length (place_if_exprs original))) back (b ∙ length-append (expr_if_list compare) (value ∷ place_if_exprs original))))
+        (ap (λ l. expr_if_list (filled_expr_if compare l) ++ first_expr (behind_expr_if compare l) ∷ place_if_exprs (filled_place_if first original (drop 1 (behind_expr_if compare l)))) (behind_filled (length (target_exprs target)) front back f) ∙
+        by_middle back (cut (length (expr_if_list compare)) (suc (length (place_if_exprs original))) back (b ∙ length-append (expr_if_list compare) (value ∷ place_if_exprs original))))
+
     by_cut : Cut (length (target_exprs target)) (length (expr_if_list compare ++ value ∷ place_if_exprs original)) es →
         operand_exprs (filled first (atomic_form target kind compare value original) es) ≡ es
     by_cut c = subst (λ l. operand_exprs (filled first (atomic_form target kind compare value original) l) ≡ l) (sym c.whole) (whole c.front c.back c.front_length c.back_length)
+
+-- a place keeps its type
+pub place_type_filled : (first : ℕ) (place : Location) (es : List Expr) → place_type (filled_place first place es) ≡ place_type place
+place_type_filled first (a_location ty root parts) es = refl
 
 -- it has as many operands, and they are grouped alike
 

@@ -1,5 +1,5 @@
 -- Words that are a value of a type: as many as the type has, and each of its kind. Such words are read as they are.
-use Rattle.std.proofs.Common.{◌≡◌, ◌∙◌, refl, sym, ap, subst, ℕ, zero, suc, ◌+◌, ◌^◌, ◌<◌, ◌≤◌, Bool, true, false, List, [], ◌∷◌, ◌++◌, map, length, Option, None, Some, slice_get, unwrap_or, arith}
+use Rattle.std.proofs.Common.{◌≡◌, ◌∙◌, refl, sym, ap, subst, ℕ, suc, ◌+◌, ◌^◌, ◌<◌, ◌≤◌, Bool, true, false, List, [], ◌∷◌, ◌++◌, map, length, Some, unwrap_or, arith}
 use Rattle.std.specs.List.{range_with_len}
 use Rattle.std.specs.Option.{ok_or}
 use Rattle.std.proofs.lemmas.List.{append_assoc, length-append}
@@ -8,17 +8,16 @@ use Rattle.lane_core.specs.declared.event.LaneFault.TheVariants.{OutOfBounds}
 use Rattle.hl_meaning.specs.declared.ty.Kind.{Kind}
 use Rattle.hl_meaning.specs.declared.ty.Kind.TheVariants.{Bool as BoolKind, Int as IntKind, Uint as UintKind}
 use Rattle.hl_meaning.specs.Types.{Ty, void_type}
-use Rattle.hl_meaning.specs.Trees.{a_location, an_expr, no_parts, read_form, variable_root}
 use Rattle.hl_meaning.specs.Places.{variable_type}
 use Rattle.hl_meaning.specs.Programs.{StructDef, Variable}
 use Rattle.hl_meaning.specs.Layout.{kinds_of, words_of}
 use Rattle.hl_meaning.specs.WellFormed.{most_words}
 use Rattle.hl_meaning.proofs.LayoutForms.{get-next, length-kinds_of}
-use Rattle.lane_core.specs.Words.{holds, truth, wrapped, wrapping_add}
+use Rattle.lane_core.specs.Words.{holds, truth, wrapping_add}
 use Rattle.hl_source.specs.Operations.{map_2, picked, word_as}
-use Rattle.hl_source.specs.State.{Context, Progress, State, after, each, first_then, gives, goes_with, variable_words}
-use Rattle.hl_source.specs.Offsets.{Reached, in_variable, start_of}
-use Rattle.hl_source.specs.Memory.{read_reached, read_words, word_of, word_offsets}
+use Rattle.hl_source.specs.State.{Context, State, each, first_then, gives, goes_with, variable_words}
+use Rattle.hl_source.specs.Offsets.{in_variable, start_of}
+use Rattle.hl_source.specs.Memory.{read_reached, word_of, word_offsets}
 use Rattle.hl_source.specs.Expressions.{evaluates}
 use Rattle.hl_inline.specs.Flattening.{reading}
 use Rattle.hl_inline.proofs.ProgressLemmas.{giving}
@@ -34,7 +33,7 @@ HasKinds _ _ = ⊥
 abbrev pub Fits : List StructDef → Ty → List ℕ → Type 0
 Fits structs ty words = HasKinds (kinds_of structs ty) words
 
-kinds_length : (kinds : List Kind) (words : List ℕ) → HasKinds kinds words → length words ≡ length kinds
+pub kinds_length : (kinds : List Kind) (words : List ℕ) → HasKinds kinds words → length words ≡ length kinds
 kinds_length [] [] h = refl
 kinds_length [] (word ∷ words) h = absurd h
 kinds_length (kind ∷ kinds) [] h = absurd h
@@ -78,8 +77,8 @@ words_from before (w ∷ ws) u low =
     let rest = words_from (before ++ w ∷ []) ws u (omega (arith, low, longer)) in
     ap (λ p. first_then p (each (word_of (before ++ w ∷ ws)) (map (wrapping_add 0) (range_with_len (length before + 1) (length ws))))) first ∙
     ap (giving (λ r. w ∷ r))
-        (subst (λ l. each (word_of l) (map (wrapping_add 0) (range_with_len (length before + 1) (length ws))) u ≡ goes_with ws u) (append_assoc before (w ∷ []) ws)
-        (subst (λ n. each (word_of ((before ++ w ∷ []) ++ ws)) (map (wrapping_add 0) (range_with_len n (length ws))) u ≡ goes_with ws u) longer rest))
+    (subst (λ l. each (word_of l) (map (wrapping_add 0) (range_with_len (length before + 1) (length ws))) u ≡ goes_with ws u) (append_assoc before (w ∷ []) ws)
+    (subst (λ n. each (word_of ((before ++ w ∷ []) ++ ws)) (map (wrapping_add 0) (range_with_len n (length ws))) u ≡ goes_with ws u) longer rest))
 
 pub whole_words : (ws : List ℕ) (u : State) → length ws < 2 ^ 32 → each (word_of ws) (word_offsets 0 (length ws)) u ≡ goes_with ws u
 whole_words ws u low = words_from [] ws u (omega (arith, low))

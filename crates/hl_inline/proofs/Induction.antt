@@ -1,7 +1,8 @@
 -- Induction over expressions: what holds of each expression whose operands it holds of.
-use Rattle.std.proofs.Common.{◌≡◌, ◌∙◌, refl, sym, ap, subst, ℕ, List, [], ◌∷◌, ◌++◌}
+use Rattle.std.proofs.Common.{ℕ, List, [], ◌∷◌, ◌++◌, zero, suc, arith}
+use Rattle.std.specs.List.{All}
 use Rattle.hl_meaning.specs.Types.{Ty}
-use Rattle.hl_meaning.specs.Trees.{Arg, Args, Expr, Exprs, Form, Location, MaybeExpr, MaybeLocation, PathPart, PathParts, Root, Target, a_location, an_expr, atomic_form, binary_form, build_form, bytes_target, call_form, choose_form, constant_root, convert_form, element_root, index_part, intrinsic_form, literal_form, member_part, method_form, more_args, more_exprs, more_parts, no_args, no_expr, no_exprs, no_location, no_parts, pick_form, place_arg, place_target, read_form, shared_root, some_expr, some_location, swizzle_part, unary_form, value_arg, variable_root, write_form}
+use Rattle.hl_meaning.specs.Trees.{Arg, Args, Expr, Exprs, Form, Location, MaybeExpr, MaybeLocation, PathParts, Root, Target, a_location, an_expr, atomic_form, binary_form, build_form, bytes_target, call_form, choose_form, constant_root, convert_form, element_root, index_part, intrinsic_form, literal_form, member_part, method_form, more_args, more_exprs, more_parts, no_args, no_expr, no_exprs, no_location, no_parts, pick_form, place_arg, place_target, read_form, shared_root, some_expr, some_location, swizzle_part, unary_form, value_arg, variable_root, write_form}
 use Rattle.hl_inline.specs.Operands.{arg_exprs, args_exprs, expr_if_list, exprs_list, operand_exprs, parts_exprs, place_exprs, place_if_exprs, root_exprs, target_exprs}
 
 -- something holds of each of a list
@@ -24,6 +25,19 @@ every_back P (x ∷ xs) ys p = every_back P xs ys p.1
 pub every_map : {A : Type 0} (P Q : A → Type 0) → ((x : A) → P x → Q x) → (xs : List A) → Every P xs → Every Q xs
 every_map P Q f [] p = tt
 every_map P Q f (x ∷ xs) p = (f x p.0, every_map P Q f xs p.1)
+
+pub every_both : {A : Type 0} (P Q : A → Type 0) (xs : List A) → Every P xs → Every Q xs → Every (λ x. P x × Q x) xs
+every_both P Q [] p q = tt
+every_both P Q (x ∷ xs) p q = ((p.0, q.0), every_both P Q xs p.1 q.1)
+
+pub every_from_all : {A : Type 0} (P : A → Type 0) (xs : List A) → All P xs → Every P xs
+every_from_all P [] all = tt
+every_from_all P (x ∷ xs) all = (all 0 x (omega arith), every_from_all P xs (λ k d low. all (suc k) d (omega (arith, low))))
+
+pub all_from_every : {A : Type 0} (P : A → Type 0) (xs : List A) → Every P xs → All P xs
+all_from_every P [] h k d low = absurd (omega (arith, low))
+all_from_every P (x ∷ xs) h zero d low = h.0
+all_from_every P (x ∷ xs) h (suc k) d low = all_from_every P xs h.1 k d (omega (arith, low))
 
 -- what each step of an induction shows
 abbrev pub Step : (Expr → Type 0) → Type 0

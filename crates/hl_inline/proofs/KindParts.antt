@@ -1,16 +1,16 @@
 -- Where the kinds of a part of a type stand among those of the type.
-use Rattle.std.proofs.Common.{◌≡◌, ◌∙◌, refl, sym, ap, subst, ℕ, zero, suc, ◌+◌, ◌*◌, ◌<◌, ◌≤◌, List, [], ◌∷◌, ◌++◌, map, length, Option, None, Some, slice_get, unwrap_or, get_or, arith}
-use Rattle.std.specs.Prelude.{drop, replicate, take}
+use Rattle.std.proofs.Common.{◌≡◌, ◌∙◌, refl, sym, ap, ℕ, zero, suc, ◌+◌, ◌*◌, ◌<◌, ◌≤◌, List, [], ◌∷◌, ◌++◌, length, Some, slice_get, unwrap_or, arith}
+use Rattle.std.specs.Prelude.{replicate, take}
 use Rattle.std.specs.List.{All}
-use Rattle.std.proofs.lemmas.List.{append_assoc, append-nil, length-append, length-replicate, length-take}
+use Rattle.std.proofs.lemmas.List.{append_assoc, append-nil, length-append, length-take}
 use Rattle.std.proofs.lemmas.Option.{none-some, same_Some}
 use Rattle.std.proofs.lemmas.List.Sums.{sum_by-cons}
 use Rattle.hl_meaning.specs.declared.ty.Kind.{Kind}
 use Rattle.hl_meaning.specs.Types.{Ty, array_type, scalar_type, struct_type, vector_type, void_type}
 use Rattle.hl_meaning.specs.Programs.{Member, StructDef}
-use Rattle.hl_meaning.specs.Layout.{kinds_in, kinds_of, member_kinds, member_offset, member_words, repeated, struct_kinds_after, struct_words, words_in, words_of}
+use Rattle.hl_meaning.specs.Layout.{kinds_in, kinds_of, member_kinds, member_offset, repeated, struct_kinds_after, struct_words, words_in, words_of}
 use Rattle.hl_meaning.specs.WellFormed.{IsDeclared, IsStruct, IsType}
-use Rattle.hl_inline.proofs.Induction.{Every, every_map}
+use Rattle.hl_inline.proofs.Induction.{Every, every_map, every_from_all}
 use Rattle.hl_meaning.proofs.LayoutForms.{IsBelow, below-more, get-next, kinds-front, length-kinds_of, struct_kinds-front}
 
 pub kinds-void : (structs : List StructDef) → kinds_of structs void_type ≡ []
@@ -63,11 +63,14 @@ part_further structs whole middle part offset more p q = record {
 
 repeated_at : (count index : ℕ) (kinds : List Kind) → index < count → (front : List Kind) × (back : List Kind) × (repeated count kinds ≡ front ++ (kinds ++ back)) × (length front ≡ index * length kinds)
 repeated_at zero index kinds low = absurd (omega (arith, low))
-repeated_at (suc count) zero kinds low = ([], repeated count kinds, refl, refl)
+repeated_at (suc count) zero kinds low = ([], repeated count kinds, refl, omega arith)
 repeated_at (suc count) (suc index) kinds low =
-    let rest = repeated_at count index kinds (omega (arith, low)) in
-    (kinds ++ rest.0, rest.1, ap (λ k. kinds ++ k) rest.2 ∙ sym (append_assoc kinds rest.0 (kinds ++ rest.1)),
-    length-append kinds rest.0 ∙ (ap (λ n. length kinds + n) rest.3 ∙ grind arith))
+    let rest = repeated_at count index kinds (omega (arith, low)) in (
+      kinds ++ rest.0,
+      rest.1,
+      ap (λ k. kinds ++ k) rest.2 ∙ sym (append_assoc kinds rest.0 (kinds ++ rest.1)),
+      length-append kinds rest.0 ∙ (ap (λ n. length kinds + n) rest.3 ∙ grind arith),
+    )
 
 pub part_element : (structs : List StructDef) (element : Ty) (count index : ℕ) → index < count → PartOf structs (array_type element count) (index * words_of structs element) element
 part_element structs element count index low =
@@ -127,10 +130,6 @@ struct_kinds_at before (e ∷ structs) (suc number) d there =
       there = ap (λ n. slice_get (struct_kinds_after (before ++ member_kinds before e.members ∷ []) structs) n) (sym longer) ∙ r.there;
     }
 
-pub every_from_all : {A : Type 0} (P : A → Type 0) (xs : List A) → All P xs → Every P xs
-every_from_all P [] all = tt
-every_from_all P (x ∷ xs) all = (all 0 x (omega arith), every_from_all P xs (λ k d low. all (suc k) d (omega (arith, low))))
-
 members_known : (known more : List (List Kind)) (members : List Member) → Every (λ m. IsBelow (length known) m.ty) members → member_kinds (known ++ more) members ≡ member_kinds known members
 members_known known more [] below = refl
 members_known known more (m ∷ members) below =
@@ -139,8 +138,8 @@ members_known known more (m ∷ members) below =
 members_below : (structs : List StructDef) (number count : ℕ) (members : List Member) → number ≤ count → All (λ m. IsDeclared (take number structs) m.ty) members → Every (λ m. IsBelow count m.ty) members
 members_below structs number count members low all =
     every_map (λ m. IsDeclared (take number structs) m.ty) (λ m. IsBelow count m.ty)
-        (λ m declared. below-more (length (take number structs)) count m.ty (omega (arith, low, length-take number structs)) (type_below (take number structs) m.ty declared.0))
-        members (every_from_all (λ m. IsDeclared (take number structs) m.ty) members all)
+    (λ m declared. below-more (length (take number structs)) count m.ty (omega (arith, low, length-take number structs)) (type_below (take number structs) m.ty declared.0))
+    members (every_from_all (λ m. IsDeclared (take number structs) m.ty) members all)
 
 pub kinds-struct : (structs : List StructDef) → AreStructs structs → (number : ℕ) (d : StructDef) → slice_get structs number ≡ Some d →
     kinds_of structs (struct_type number) ≡ member_kinds (struct_kinds_after [] structs) d.members

@@ -1,25 +1,25 @@
 -- What becomes of an expression that isn't a call does what the expression does.
-use Rattle.std.proofs.Common.{◌≡◌, ◌∙◌, refl, sym, ap, subst, ℕ, zero, suc, ◌+◌, ◌<◌, ◌≤◌, Bool, true, false, List, [], ◌∷◌, ◌++◌, map, length, arith}
+use Rattle.std.proofs.Common.{◌≡◌, ◌∙◌, refl, sym, ap, subst, ℕ, true, false, List, map, length}
 use Rattle.std.proofs.lemmas.List.{length-map}
 use Rattle.std.proofs.lemmas.Bool.{true≢false}
 use Rattle.lane_core.specs.Lane.{Lane}
 use Rattle.hl_meaning.specs.Types.{Ty}
 use Rattle.hl_meaning.specs.Trees.{Expr, Form, an_expr, atomic_form, binary_form, build_form, call_form, choose_form, convert_form, intrinsic_form, literal_form, method_form, pick_form, read_form, type_of, unary_form, write_form}
 use Rattle.hl_meaning.specs.Programs.{Variable}
-use Rattle.hl_source.specs.State.{Context, Progress, State, after, goes_with}
-use Rattle.hl_source.specs.Expressions.{acts, evaluates, operands}
+use Rattle.hl_source.specs.State.{Context, State, after}
+use Rattle.hl_source.specs.Expressions.{acts, evaluates}
 use Rattle.hl_inline.specs.FlatTrees.{Flat}
-use Rattle.hl_inline.specs.FlatLane.{flat_context, flat_end}
+use Rattle.hl_inline.specs.FlatLane.{flat_context}
 use Rattle.hl_inline.specs.Operands.{filled, operand_exprs}
-use Rattle.hl_inline.specs.Flattening.{Emitter, Fresh, Instance, Valued, Values, any_calls, emit_all, is_literal_form, next_of, node, over}
+use Rattle.hl_inline.specs.Flattening.{Emitter, Fresh, Instance, Values, emit_all, is_literal_form, next_of, node, over}
 use Rattle.hl_inline.proofs.Induction.{Every}
-use Rattle.hl_inline.proofs.ProgressLemmas.{after_cong, after_giving, giving, giving_cong}
+use Rattle.hl_inline.proofs.ProgressLemmas.{after_cong, after_giving}
 use Rattle.hl_inline.proofs.OperandLemmas.{evaluate_all, grouped, is_call_form, operands_all}
 use Rattle.hl_inline.proofs.FilledLemmas.{filled_grouped, filled_not_call, filled_operands}
-use Rattle.hl_inline.proofs.Relation.{Alike, Keeps, KeepsAll, Related, Stands, flat_of_context}
+use Rattle.hl_inline.proofs.Relation.{Keeps, Stands, flat_of_context}
 use Rattle.hl_inline.proofs.Reading.{Acting}
 use Rattle.hl_inline.proofs.Acts.{FormIn, SameTypes, alike_acts}
-use Rattle.hl_inline.proofs.Performing.{Opens, Runs, alike_map, opens_same, opens_then, perform}
+use Rattle.hl_inline.proofs.Performing.{Opens, alike_map, opens_same, opens_then, perform}
 use Rattle.hl_inline.proofs.Emission.{ClosesAs, Emits, HasRoom, HasValue, Later, OpensAs, all_grow, all_names, all_open, all_quiet, all_typed, keeps_refl}
 
 module _ (c : Context) (V : List Variable) (first : ℕ) (stands : Stands c V first) (f : Flat) (lane : Lane) (n : ℕ) (known : flat_context f lane ≡ flat_of_context c V) where
@@ -50,17 +50,18 @@ module _ (c : Context) (V : List Variable) (first : ℕ) (stands : Stands c V fi
       OpensAs c V first stands f lane n known D (an_expr ty at form) fresh (over i ty at form (emit_all false (map em (operand_exprs form)) fresh))
   node_opens D i ty at form em is plain inside emits value fresh room s t r =
       subst (λ p. Opens (Keeps first (length c.scope.variables) (next_of fresh) t) (Later c V first D (next_of fresh) t) p (perform f lane n x.code t) (evaluates (flat_of_context c V) (an_expr ty at (filled i.first form x.values))))
-          (sym (form_evaluates c ty at form s plain))
+      (sym (form_evaluates c ty at form s plain))
       (opens_same _ _ _ _ _ (evaluates (flat_of_context c V) (an_expr ty at (filled i.first form x.values)))
-          (λ u. ap (λ k. evaluates (flat_of_context c V) (an_expr ty at (filled k form x.values)) u) is ∙ filled_evaluates (flat_of_context c V) ty at form x.values u plain types)
+      (λ u. ap (λ k. evaluates (flat_of_context c V) (an_expr ty at (filled k form x.values)) u) is ∙ filled_evaluates (flat_of_context c V) ty at form x.values u plain types)
       (opens_then (Keeps first (length c.scope.variables) (next_of fresh) t) (Later c V first D (next_of fresh) t) (Later c V first D (next_of fresh) t) (evaluate_all c (operand_exprs form) s) (perform f lane n x.code t)
-          (evaluate_all (flat_of_context c V) x.values) (λ ws s1. acts c ty form (grouped form ws) s1) (λ ws u1. acts (flat_of_context c V) ty (filled first form x.values) (grouped form ws) u1)
-          (all_open c V first stands f lane n known D em (operand_exprs form) emits value fresh room s t r)
-          (λ ws s1 u1 later. alike_map (Acting c V first D u1) (Later c V first D (next_of fresh) t) (later_acting D (next_of fresh) t s1 u1 later) _ _
-              (alike_acts c V first D u1 stands ty form x.values plain inside types (grouped form ws) s1 u1 (later.0, λ w outside. refl)))))
+      (evaluate_all (flat_of_context c V) x.values) (λ ws s1. acts c ty form (grouped form ws) s1) (λ ws u1. acts (flat_of_context c V) ty (filled first form x.values) (grouped form ws) u1)
+      (all_open c V first stands f lane n known D em (operand_exprs form) emits value fresh room s t r)
+      (λ ws s1 u1 later. alike_map (Acting c V first D u1) (Later c V first D (next_of fresh) t) (later_acting D (next_of fresh) t s1 u1 later) _ _
+      (alike_acts c V first D u1 stands ty form x.values plain inside types (grouped form ws) s1 u1 (later.0, λ w outside. refl)))))
     where
       x : Values
       x = emit_all false (map em (operand_exprs form)) fresh
+
       types : SameTypes (emit_all false (map em (operand_exprs form)) fresh).values (operand_exprs form)
       types = all_typed c V first stands f lane n known D em (operand_exprs form) emits false fresh
 

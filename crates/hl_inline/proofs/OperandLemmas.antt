@@ -1,17 +1,16 @@
 -- Forms by their operands: how they are evaluated, what becomes of them, and forms with others in their place.
-use Rattle.std.proofs.Common.{◌≡◌, ◌∙◌, refl, sym, ap, subst, ℕ, suc, ◌+◌, Bool, true, false, List, [], ◌∷◌, ◌++◌, map, length, drop, take, arith}
-use Rattle.std.proofs.lemmas.List.{append_assoc, append-nil, map-append}
+use Rattle.std.proofs.Common.{◌≡◌, ◌∙◌, refl, sym, ap, subst, ℕ, suc, Bool, true, false, List, [], ◌∷◌, ◌++◌, map, length, drop, take}
+use Rattle.std.proofs.lemmas.List.{map-append}
 use Rattle.std.proofs.lemmas.Bool.{true≢false}
 use Rattle.std.proofs.Math.Seq.{drop-append_seam, take-append_seam}
 use Rattle.std.specs.List.{concat}
 use Rattle.hl_meaning.specs.Types.{Ty}
-use Rattle.hl_meaning.specs.Trees.{Arg, Args, Expr, Exprs, Form, Location, MaybeExpr, MaybeLocation, PathPart, PathParts, Root, Target, a_location, an_expr, atomic_form, binary_form, build_form, bytes_target, call_form, choose_form, constant_root, convert_form, element_root, index_part, intrinsic_form, literal_form, member_part, method_form, more_args, more_exprs, more_parts, no_args, no_expr, no_exprs, no_location, no_parts, pick_form, place_arg, place_target, read_form, shared_root, some_expr, some_location, swizzle_part, unary_form, value_arg, variable_root, write_form}
-use Rattle.hl_meaning.specs.Views.{exprs_of}
+use Rattle.hl_meaning.specs.Trees.{Expr, Exprs, Form, Location, MaybeExpr, MaybeLocation, PathParts, Root, Target, a_location, atomic_form, binary_form, build_form, bytes_target, call_form, choose_form, constant_root, convert_form, element_root, index_part, intrinsic_form, literal_form, member_part, method_form, more_exprs, more_parts, no_expr, no_exprs, no_location, no_parts, pick_form, place_target, read_form, shared_root, some_expr, some_location, swizzle_part, unary_form, variable_root, write_form, Args, more_args, no_args, place_arg, value_arg}
 use Rattle.hl_source.specs.State.{Context, Progress, State, after, alone, each, first_then, goes_with, joined}
-use Rattle.hl_source.specs.Expressions.{evaluates, indexes, indexes_if, operands, root_index, step_index, step_indexes, target_indexes, value_if, values, values_if}
-use Rattle.hl_inline.specs.Operands.{args_exprs, behind_expr_if, behind_root, behind_target, expr_if_list, exprs_list, filled, filled_expr_if, filled_parts, filled_place, filled_place_if, filled_root, filled_target, first_expr, operand_exprs, parts_exprs, place_exprs, place_if_exprs, root_exprs, target_exprs}
-use Rattle.hl_inline.specs.Flattening.{Emitter, Inlined, Instance, emitter, expr_if_emitters, exprs_emitters, form_emitter, node, parts_emitters, part_emitters, place_emitters, place_if_emitters, root_emitters, target_emitters}
-use Rattle.hl_inline.proofs.ProgressLemmas.{after_assoc, after_cong, after_giving, after_goes, concat_append, concat_one, each_append, giving, giving_after, giving_cong, giving_giving, giving_same}
+use Rattle.hl_source.specs.Expressions.{evaluates, indexes, indexes_if, operands, root_index, step_indexes, target_indexes, value_if, values, values_if}
+use Rattle.hl_inline.specs.Operands.{expr_if_list, exprs_list, operand_exprs, parts_exprs, place_exprs, place_if_exprs, root_exprs, target_exprs}
+use Rattle.hl_inline.specs.Flattening.{Inlined, Instance, emitter, expr_if_emitters, exprs_emitters, form_emitter, node, parts_emitters, place_emitters, place_if_emitters, target_emitters, Argument, Emitter, args_emitters, place_argument, value_argument}
+use Rattle.hl_inline.proofs.ProgressLemmas.{after_assoc, after_cong, after_giving, concat_append, concat_one, each_append, giving, giving_after, giving_cong, giving_giving, giving_same}
 
 abbrev pub is_call_form : Form → Bool
 is_call_form (call_form function args) = true
@@ -41,9 +40,9 @@ joined_all : (c : Context) (xs ys : List Expr) (s : State) →
 joined_all c xs ys s =
     after_giving concat (evaluate_all c xs s) _ ∙
     (after_cong (evaluate_all c xs s) _ _ (λ first s1.
-        giving_giving concat (λ more. concat first ++ more) (evaluate_all c ys s1) ∙
-        (giving_cong (λ rest. concat first ++ concat rest) (λ rest. concat (first ++ rest)) (λ rest. sym (concat_append first rest)) (evaluate_all c ys s1) ∙
-        sym (giving_giving (λ rest. first ++ rest) concat (evaluate_all c ys s1)))) ∙
+    giving_giving concat (λ more. concat first ++ more) (evaluate_all c ys s1) ∙
+    (giving_cong (λ rest. concat first ++ concat rest) (λ rest. concat (first ++ rest)) (λ rest. sym (concat_append first rest)) (evaluate_all c ys s1) ∙
+    sym (giving_giving (λ rest. first ++ rest) concat (evaluate_all c ys s1)))) ∙
     (sym (giving_after concat (evaluate_all c xs s) _) ∙ ap (giving concat) (sym (each_append (evaluates c) xs ys s))))
 
 steps_all : (c : Context) (parts : PathParts) (s : State) → step_indexes c parts s ≡ giving concat (evaluate_all c (parts_exprs parts) s)
@@ -99,8 +98,8 @@ each_cong_length part [] s f g h = h [] s refl
 each_cong_length part (x ∷ xs) s f g h =
     after_assoc (part x s) _ f ∙
     (after_cong (part x s) _ _ (λ w s1. after_giving (λ ws. w ∷ ws) (each part xs s1) f ∙
-        (each_cong_length part xs s1 (λ ws. f (w ∷ ws)) (λ ws. g (w ∷ ws)) (λ ws s2 e. h (w ∷ ws) s2 (ap suc e)) ∙
-        sym (after_giving (λ ws. w ∷ ws) (each part xs s1) g))) ∙
+    (each_cong_length part xs s1 (λ ws. f (w ∷ ws)) (λ ws. g (w ∷ ws)) (λ ws s2 e. h (w ∷ ws) s2 (ap suc e)) ∙
+    sym (after_giving (λ ws. w ∷ ws) (each part xs s1) g))) ∙
     sym (after_assoc (part x s) _ g))
 
 take_front : {A : Type 0} (n : ℕ) (xs ys : List A) → length xs ≡ n → take n (xs ++ ys) ≡ xs
@@ -115,10 +114,10 @@ apart_all : {A : Type 0} (c : Context) (n : ℕ) (xs ys : List Expr) (s : State)
     giving (λ ws. h (take n ws) (drop n ws)) (evaluate_all c (xs ++ ys) s)
 apart_all c n xs ys s h e =
     each_cong_length (evaluates c) xs s _ _ (λ first s1 is.
-        giving_cong (h first) (λ rest. h (take n (first ++ rest)) (drop n (first ++ rest)))
-            (λ rest. ap (λ f. h f rest) (sym (take_front n first rest (is ∙ e))) ∙ ap (h (take n (first ++ rest))) (sym (drop_front n first rest (is ∙ e))))
-            (evaluate_all c ys s1) ∙
-        sym (giving_giving (λ rest. first ++ rest) (λ ws. h (take n ws) (drop n ws)) (evaluate_all c ys s1))) ∙
+    giving_cong (h first) (λ rest. h (take n (first ++ rest)) (drop n (first ++ rest)))
+    (λ rest. ap (λ f. h f rest) (sym (take_front n first rest (is ∙ e))) ∙ ap (h (take n (first ++ rest))) (sym (drop_front n first rest (is ∙ e))))
+    (evaluate_all c ys s1) ∙
+    sym (giving_giving (λ rest. first ++ rest) (λ ws. h (take n ws) (drop n ws)) (evaluate_all c ys s1))) ∙
     (sym (giving_after (λ ws. h (take n ws) (drop n ws)) (evaluate_all c xs s) _) ∙
     ap (giving (λ ws. h (take n ws) (drop n ws))) (sym (each_append (evaluates c) xs ys s)))
 
@@ -147,7 +146,7 @@ operands_all c (literal_form word) s _ = refl
 operands_all c (read_form place) s _ = alone_place_all c place s
 operands_all c (write_form to op common value old) s _ =
     then_all c (indexes c to s) (λ s1. alone (evaluates c value s1)) (place_exprs to) (value ∷ []) (λ ws. ws) (length (place_exprs to)) s refl (indexes_all c to s)
-        (λ s1. same_all c (value ∷ []) s1)
+    (λ s1. same_all c (value ∷ []) s1)
 operands_all c (convert_form value) s _ = same_all c (value ∷ []) s
 operands_all c (unary_form op value) s _ = same_all c (value ∷ []) s
 operands_all c (binary_form op left right) s _ = same_all c (left ∷ right ∷ []) s
@@ -194,6 +193,19 @@ target_emitters_all : (k : List Inlined) (i : Instance) (target : Target) → ta
 target_emitters_all k i (place_target place) = place_emitters_all k i place
 target_emitters_all k i (bytes_target resource address) = refl
 
+-- what becomes of arguments, given what becomes of their expressions
+abbrev pub args_by : (Expr → Emitter) → Args → List Argument
+args_by em no_args = []
+args_by em (more_args (value_arg value) rest) = value_argument (em value) ∷ args_by em rest
+args_by em (more_args (place_arg place) rest) = place_argument place (map em (place_exprs place)) ∷ args_by em rest
+
+pub args_emitters_all : (k : List Inlined) (i : Instance) (args : Args) → args_emitters k i args ≡ args_by (emitter k i) args
+args_emitters_all k i no_args = refl
+args_emitters_all k i (more_args (value_arg value) rest) = ap (λ l. value_argument (emitter k i value) ∷ l) (args_emitters_all k i rest)
+args_emitters_all k i (more_args (place_arg place) rest) =
+    ap (λ es. place_argument place es ∷ args_emitters k i rest) (place_emitters_all k i place) ∙
+    ap (λ l. place_argument place (map (emitter k i) (place_exprs place)) ∷ l) (args_emitters_all k i rest)
+
 map_both : {A B : Type 0} (f : A → B) (xs ys : List A) (us vs : List B) → us ≡ map f xs → vs ≡ map f ys → us ++ vs ≡ map f (xs ++ ys)
 map_both f xs ys us vs e e' = ap (λ l. l ++ vs) e ∙ (ap (λ l. map f xs ++ l) e' ∙ sym (map-append f xs ys))
 
@@ -215,6 +227,6 @@ form_emitter_all k i ty at (method_form resource count address value) _ =
     ap (λ es. node i ty at (method_form resource count address value) (emitter k i address ∷ es)) (expr_if_emitters_all k i value)
 form_emitter_all k i ty at (atomic_form target kind compare value original) _ =
     ap (node i ty at (atomic_form target kind compare value original))
-        (map_both (emitter k i) (target_exprs target) (expr_if_list compare ++ value ∷ place_if_exprs original) _ _ (target_emitters_all k i target)
-        (map_both (emitter k i) (expr_if_list compare) (value ∷ place_if_exprs original) _ _ (expr_if_emitters_all k i compare)
-        (ap (λ es. emitter k i value ∷ es) (place_if_emitters_all k i original))))
+    (map_both (emitter k i) (target_exprs target) (expr_if_list compare ++ value ∷ place_if_exprs original) _ _ (target_emitters_all k i target)
+    (map_both (emitter k i) (expr_if_list compare) (value ∷ place_if_exprs original) _ _ (expr_if_emitters_all k i compare)
+    (ap (λ es. emitter k i value ∷ es) (place_if_emitters_all k i original))))

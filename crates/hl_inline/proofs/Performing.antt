@@ -1,16 +1,10 @@
 -- Statements of a program without calls, one after another, and what they leave behind.
-use Rattle.std.proofs.Common.{◌≡◌, ◌∙◌, refl, sym, ap, subst, ℕ, zero, suc, ◌+◌, ◌<◌, ◌≤◌, ◌⊎◌, inl, inr, Bool, true, false, List, [], ◌∷◌, ◌++◌, map, length, Option, None, Some, slice_get, unwrap_or, arith}
+use Rattle.std.proofs.Common.{◌≡◌, ◌∙◌, refl, sym, ap, subst, ℕ, ◌⊎◌, inl, inr, List, [], ◌∷◌, ◌++◌}
 use Rattle.lane_core.specs.Lane.{Lane, Run}
-use Rattle.hl_meaning.specs.Types.{Ty}
-use Rattle.hl_meaning.specs.Trees.{Expr}
-use Rattle.hl_meaning.specs.Programs.{Variable}
-use Rattle.hl_source.specs.State.{Context, Progress, State, after, ends_at, goes_with, variable_words, with_variable}
-use Rattle.hl_source.specs.Statements.{condition, declares}
-use Rattle.hl_source.specs.Expressions.{evaluates}
-use Rattle.hl_inline.specs.FlatTrees.{Flat, FlatStmt, flat_block, flat_if, flat_local, flat_named, flat_run, more_flat_stmts, no_flat_stmts}
+use Rattle.hl_source.specs.State.{Progress, State, after, ends_at, goes_with}
+use Rattle.hl_inline.specs.FlatTrees.{Flat, FlatStmt}
 use Rattle.hl_inline.specs.FlatViews.{flat_stmts_of}
-use Rattle.hl_inline.specs.FlatLane.{FlatLeaving, flat_context, flat_done, flat_end, flat_to, performs, performs_all, then_flat}
-use Rattle.hl_inline.proofs.ProgressLemmas.{after_assoc, after_cong, after_goes}
+use Rattle.hl_inline.specs.FlatLane.{FlatLeaving, flat_end, flat_to, performs, performs_all, then_flat}
 use Rattle.hl_inline.proofs.Relation.{Alike}
 
 abbrev pub perform : Flat → Lane → (n : ℕ) → List FlatStmt → State → Progress FlatLeaving
@@ -80,11 +74,6 @@ pub opens_same : {A : Type 0} (M : State → Type 0) (R : State → State → Ty
 opens_same M R (goes_with a s) q k l h (t, e, m, (u, is, r)) = (t, e, m, (u, h t ∙ is, r))
 opens_same M R (ends_at run) q k l h (inl e) = inl e
 opens_same M R (ends_at run) q k l h (inr (t, e, m, is)) = inr (t, e, m, h t ∙ is)
-
-pub opens_map : {A : Type 0} (M : State → Type 0) (R S : State → State → Type 0) (p : Progress A) (q : Progress FlatLeaving) (k : State → Progress A) →
-    ((s t : State) → R s t → S s t) → Opens M R p q k → Opens M S p q k
-opens_map M R S (goes_with a s) q k h (t, e, m, (u, is, r)) = (t, e, m, (u, is, h s u r))
-opens_map M R S (ends_at run) q k h o = o
 
 -- where nothing is left to do behind the code, and its evaluation gives the same wherever it stands
 pub alike_map : {A : Type 0} (R S : State → State → Type 0) → ((s t : State) → R s t → S s t) → (p q : Progress A) → Alike R p q → Alike S p q

@@ -1,8 +1,8 @@
 -- Parts of a run, one after another.
-use Rattle.std.proofs.Common.{◌≡◌, ◌∙◌, refl, sym, ap, subst, ℕ, List, [], ◌∷◌, ◌++◌}
+use Rattle.std.proofs.Common.{◌≡◌, ◌∙◌, refl, sym, ap, ℕ, List, [], ◌∷◌, ◌++◌}
 use Rattle.std.proofs.lemmas.List.{append_assoc, append-nil}
 use Rattle.std.specs.List.{concat}
-use Rattle.hl_source.specs.State.{Progress, State, after, alone, each, ends_at, first_then, goes_with, joined, no_value}
+use Rattle.hl_source.specs.State.{Progress, State, after, each, ends_at, goes_with}
 
 pub after_cong : {A B : Type 0} (p : Progress A) (f g : A → State → Progress B) → ((a : A) (s : State) → f a s ≡ g a s) → after p f ≡ after p g
 after_cong (goes_with a s) f g h = h a s
@@ -12,10 +12,6 @@ pub after_assoc : {A B C : Type 0} (p : Progress A) (f : A → State → Progres
     after (after p f) g ≡ after p (λ a s. after (f a s) g)
 after_assoc (goes_with a s) f g = refl
 after_assoc (ends_at run) f g = refl
-
-pub after_goes : {A : Type 0} (p : Progress A) → after p goes_with ≡ p
-after_goes (goes_with a s) = refl
-after_goes (ends_at run) = refl
 
 -- what is given by a part, as another
 abbrev pub giving : {A B : Type 0} → (A → B) → Progress A → Progress B
@@ -46,16 +42,12 @@ pub each_append : {A B : Type 0} (part : A → State → Progress B) (xs ys : Li
 each_append part [] ys s = sym (giving_same (λ bs. bs) (λ bs. refl) (each part ys s))
 each_append part (x ∷ xs) ys s =
     let whole : (b : _) (s1 : State) → giving (λ bs. b ∷ bs) (each part (xs ++ ys) s1) ≡
-            after (giving (λ bs. b ∷ bs) (each part xs s1)) (λ first s2. giving (λ bs. first ++ bs) (each part ys s2)) =
-        λ b s1. ap (giving (λ bs. b ∷ bs)) (each_append part xs ys s1) ∙
-            (giving_after (λ bs. b ∷ bs) (each part xs s1) _ ∙
-            (after_cong (each part xs s1) _ _ (λ first s2. giving_giving (λ bs. first ++ bs) (λ bs. b ∷ bs) (each part ys s2)) ∙
-            sym (after_giving (λ bs. b ∷ bs) (each part xs s1) _))) in
+    after (giving (λ bs. b ∷ bs) (each part xs s1)) (λ first s2. giving (λ bs. first ++ bs) (each part ys s2)) =
+    λ b s1. ap (giving (λ bs. b ∷ bs)) (each_append part xs ys s1) ∙
+    (giving_after (λ bs. b ∷ bs) (each part xs s1) _ ∙
+    (after_cong (each part xs s1) _ _ (λ first s2. giving_giving (λ bs. first ++ bs) (λ bs. b ∷ bs) (each part ys s2)) ∙
+    sym (after_giving (λ bs. b ∷ bs) (each part xs s1) _))) in
     after_cong (part x s) _ _ whole ∙ sym (after_assoc (part x s) _ _)
-
--- one part, as a list
-pub each_one : {A B : Type 0} (part : A → State → Progress B) (x : A) (s : State) → each part (x ∷ []) s ≡ alone (part x s)
-each_one part x s = refl
 
 pub concat_append : (xs ys : List (List ℕ)) → concat (xs ++ ys) ≡ concat xs ++ concat ys
 concat_append [] ys = refl

@@ -1,9 +1,9 @@
 -- Places are read and written alike in a program and in one without calls.
-use Rattle.std.proofs.Common.{◌≡◌, ◌∙◌, refl, sym, ap, subst, ℕ, suc, ◌+◌, ◌<◌, ◌≤◌, ◌⊎◌, inl, inr, Bool, true, false, List, [], ◌∷◌, map, length, drop, Option, None, Some, slice_get, unwrap_or, arith}
+use Rattle.std.proofs.Common.{◌≡◌, ◌∙◌, refl, sym, ap, subst, ℕ, ◌+◌, ◌<◌, inl, Bool, true, false, List, [], ◌∷◌, length, drop, Option, None, Some, slice_get, unwrap_or}
 use Rattle.std.specs.Option.{ok_or}
-use Rattle.std.specs.Prelude.{if◌then◌else◌, nat_lt, zip, take, slice_index, slice_set, option_and_then, option_map}
+use Rattle.std.specs.Prelude.{if◌then◌else◌, nat_lt, zip, take, slice_index, slice_set, option_map}
 use Rattle.std.proofs.lemmas.List.{length-set}
-use Rattle.std.proofs.lemmas.Option.{none-some, same_Some, slice_get_within}
+use Rattle.std.proofs.lemmas.Option.{none-some, slice_get_within}
 use Rattle.lane_core.specs.declared.event.Event.{Event}
 use Rattle.lane_core.specs.declared.event.LaneFault.{LaneFault}
 use Rattle.lane_core.specs.declared.event.Reply.{Reply}
@@ -14,16 +14,15 @@ use Rattle.lane_core.specs.declared.event.Slot.{Slot}
 use Rattle.lane_core.specs.Lane.{Exchange, standing}
 use Rattle.hl_meaning.specs.Types.{Ty, void_type}
 use Rattle.hl_meaning.specs.Trees.{Expr, Location, PathParts, Root, a_location, constant_root, element_root, index_part, member_part, more_parts, no_parts, shared_root, swizzle_part, variable_root}
-use Rattle.hl_meaning.specs.Places.{Scope, root_type, variable_type}
+use Rattle.hl_meaning.specs.Places.{root_type}
 use Rattle.hl_meaning.specs.Programs.{StructDef, Variable}
-use Rattle.hl_meaning.specs.Layout.{kinds_of, words_of}
-use Rattle.hl_source.specs.Operations.{map_2, picked, word_as}
+use Rattle.hl_meaning.specs.Layout.{words_of}
 use Rattle.lane_core.specs.Words.{wrapping_add}
-use Rattle.hl_source.specs.State.{Context, Progress, State, after, asks, asks_word, each, ends_at, faults, gives, goes_with, no_value, reply_word, reply_words, variable_words, with_variable}
+use Rattle.hl_source.specs.State.{Context, Progress, State, after, asks, asks_word, each, ends_at, faults, gives, goes_with, reply_word, reply_words, variable_words, with_variable}
 use Rattle.hl_source.specs.Offsets.{Holder, Place, Reached, at_index, at_member, at_swizzle, holder_of, in_constant, in_element, in_shared, in_variable, member_of, place_of, reached, start_of, indexes_of_steps, type_of_root}
-use Rattle.hl_source.specs.Memory.{atomic_address, atomic_word, byte_offset, cell, constant_words, load_four, load_words, pieces, read_place, read_reached, read_words, shared_size, store_four, store_words, within, word_of, word_offsets, write_letters, write_place, write_variable_word, write_words}
+use Rattle.hl_source.specs.Memory.{atomic_word, byte_offset, constant_words, load_four, load_words, pieces, read_place, read_reached, read_words, shared_size, store_four, store_words, within, word_of, word_offsets, write_letters, write_place, write_variable_word, write_words}
 use Rattle.hl_inline.specs.Operands.{filled_parts, filled_place, filled_root, behind_root}
-use Rattle.hl_inline.proofs.Relation.{Alike, IsOutside, KeepsAll, Related, Stands, alike_after, alike_each, alike_goes, flat_of_context, keeps_all_trans, outside_set, related_set}
+use Rattle.hl_inline.proofs.Relation.{Alike, KeepsAll, Related, Stands, alike_after, alike_each, alike_goes, flat_of_context, keeps_all_trans, outside_set, related_set}
 
 -- states that have had the same exchange, and still have it after any other exchange
 pub record Follow (R : State → State → Type 0) : Type 0 where
@@ -141,17 +140,25 @@ module _ (c : Context) (V : List Variable) (first : ℕ) (D : ℕ → Type 0) (u
     where
       same : variable_words t (first + v) ≡ variable_words s v
       same = r.0.same v low d
+
       go_flat : State → Progress (List ℕ)
       go_flat s' = goes_with [] (with_variable (first + v) (slice_set (variable_words s' (first + v)) offset word) s')
+
       after_source : State
       after_source = with_variable v (slice_set (variable_words s v) offset word) s
+
       related : Acting c V first D u after_source (with_variable (first + v) (slice_set (variable_words s v) offset word) t)
-      related =
-          (related_set c V first D D v (slice_set (variable_words s v) offset word) s t stands r.0 low (λ w d. inl d) (length-set (variable_words s v) offset word) (length-set (variable_words s v) offset word ∙ ap length (sym same)),
-          keeps_all_trans first (length c.scope.variables) u t (with_variable (first + v) (slice_set (variable_words s v) offset word) t) r.1 (outside_set first (length c.scope.variables) v (slice_set (variable_words s v) offset word) t low))
+      related = (
+        related_set c V first D D v (slice_set (variable_words s v) offset word) s t stands r.0 low (λ w d. inl d) (length-set (variable_words s v) offset word) (length-set (variable_words s v) offset word ∙ ap length (sym same)),
+        keeps_all_trans first (length c.scope.variables) u t (with_variable (first + v) (slice_set (variable_words s v) offset word) t) r.1 (outside_set first (length c.scope.variables) v (slice_set (variable_words s v) offset word) t low),
+      )
+
       by_test : (b : Bool) → Alike (Acting c V first D u) ((if b then (λ s'. goes_with [] (with_variable v (slice_set (variable_words s' v) offset word) s')) else faults OutOfBounds) s) ((if b then go_flat else faults OutOfBounds) t)
-      by_test true = (with_variable (first + v) (slice_set (variable_words t (first + v)) offset word) t, refl,
-          subst (λ ws. Acting c V first D u after_source (with_variable (first + v) (slice_set ws offset word) t)) (sym same) related)
+      by_test true = (
+        with_variable (first + v) (slice_set (variable_words t (first + v)) offset word) t,
+        refl,
+        subst (λ ws. Acting c V first D u after_source (with_variable (first + v) (slice_set ws offset word) t)) (sym same) related,
+      )
       by_test false = alike_faults (Acting c V first D u) follows OutOfBounds s t r
 
   pub alike_write_words : (holder : Holder) → HolderIn c D holder → (offset : ℕ) (ws : List ℕ) (s t : State) → IsChanged holder → Acting c V first D u s t →
@@ -235,6 +242,7 @@ place_moved c V first D stands (a_location ty root parts) es ixs r =
     holder_is (constant_root number) = refl
     holder_is (shared_root number) = refl
     holder_is (element_root resource index) = refl
+
     steps_are : (root : Root) → indexes_of_steps (filled_root first root es) ixs ≡ indexes_of_steps root ixs
     steps_are (variable_root number) = refl
     steps_are (constant_root number) = refl

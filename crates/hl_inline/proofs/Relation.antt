@@ -1,5 +1,5 @@
 -- How a lane of a program and one of the program without calls stand to one another, inside one call of a function.
-use Rattle.std.proofs.Common.{◌≡◌, ◌∙◌, refl, sym, ap, subst, ℕ, suc, ◌+◌, ◌<◌, ◌≤◌, ◌⊎◌, inl, inr, List, [], ◌∷◌, map, length, Option, None, Some, slice_get, unwrap_or, arith}
+use Rattle.std.proofs.Common.{◌≡◌, ◌∙◌, refl, sym, ap, subst, ℕ, ◌+◌, ◌<◌, ◌≤◌, ◌⊎◌, inl, inr, List, [], ◌∷◌, map, length, Some, slice_get, arith}
 use Rattle.std.specs.Prelude.{slice_set}
 use Rattle.std.proofs.lemmas.List.{get_or-set_other, get_or-set_same, length-map}
 use Rattle.std.proofs.lemmas.Bool.{cases_eq}
@@ -7,7 +7,7 @@ use Rattle.std.proofs.lemmas.Option.{unwrap_or-slice_get}
 use Rattle.std.proofs.Math.Seq.{map-set_same}
 use Rattle.std.specs.Prelude.{option_map}
 use Rattle.hl_meaning.specs.Types.{Ty, void_type}
-use Rattle.hl_meaning.specs.Places.{Scope, variable_type}
+use Rattle.hl_meaning.specs.Places.{variable_type}
 use Rattle.hl_meaning.specs.Programs.{Variable}
 use Rattle.hl_meaning.specs.Layout.{words_of}
 use Rattle.hl_source.specs.State.{Context, Progress, State, after, each, ends_at, goes_with, variable_words, with_variable}
@@ -116,12 +116,15 @@ related_set c V first D E v ws s t stands r low among e e' = record {
   where
     source_low : v < length s.variables
     source_low = omega (arith, low, count_by_sizes c c.scope.variables s r.sizes)
+
     flat_low : first + v < length t.variables
     flat_low = omega (arith, low, stands.room, count_by_sizes c V t r.flat_sizes)
+
     set_both : (u : ℕ) → u ≡ v → variable_words (with_variable (first + v) ws t) (first + u) ≡ variable_words (with_variable v ws s) u
     set_both u is =
         subst (λ w. variable_words (with_variable (first + v) ws t) (first + w) ≡ variable_words (with_variable v ws s) w) (sym is)
         (words_set_same (first + v) ws t flat_low ∙ sym (words_set_same v ws s source_low))
+
     by_case : (u : ℕ) → u < length c.scope.variables → D u ⊎ (u ≡ v) → (u ≡ v) ⊎ (u ≡ v → ⊥) → variable_words (with_variable (first + v) ws t) (first + u) ≡ variable_words (with_variable v ws s) u
     by_case u here among (inl is) = set_both u is
     by_case u here (inr is) (inr apart) = set_both u is

@@ -1,6 +1,6 @@
 -- Values that stay as they are while further statements run.
 use Rattle.std.proofs.Common.{◌≡◌, ◌∙◌, refl, ap, sym, ℕ, Bool, false, true, List, [], ◌∷◌, ◌++◌, Some}
-use Rattle.std.specs.Prelude.{◌&&◌, not}
+use Rattle.std.specs.Prelude.{not}
 use Rattle.hl_meaning.specs.declared.expression.Expr as held
 use Rattle.hl_meaning.specs.Trees.{Expr, type_of}
 use Rattle.hl_meaning.specs.Types.{Ty}
@@ -9,6 +9,14 @@ use Rattle.hl_meaning.proofs.Plain.{plain_expr-is}
 use Rattle.hl_inline.specs.Building.{Made, made, operand_behind, valued}
 use Rattle.hl_inline.specs.FlatTrees.{FlatStmt, flat_local}
 use Rattle.hl_inline.specs.Flattening.{Fresh, next_of, reading, saved, settled, token_of, unnamed, with_variables}
+
+pub not-true : (b : Bool) → not b ≡ true → b ≡ false
+not-true true e = absurd (cc)
+not-true false e = refl
+
+pub not-false : (b : Bool) → not b ≡ false → b ≡ true
+not-false true e = refl
+not-false false e = absurd (cc)
 
 pub saved-as : (code grown : List FlatStmt) (value : held.Expr) (read : Expr) (fresh now : Fresh) (number : ℕ) → number ≡ next_of fresh → read ≡ reading (plain_ty value.ty) value.at number
     → now ≡ with_variables (unnamed (plain_ty value.ty) value.at ∷ []) fresh → grown ≡ code ++ flat_local number (Some (plain_expr value)) ∷ []
@@ -29,8 +37,13 @@ pub settled-saved : (further fixed : Bool) (code : List FlatStmt) (value : Expr)
 settled-saved further fixed code value fresh m a b e =
     ap (λ f. operand_behind [] (settled f (valued code value fixed fresh))) a ∙ (ap (λ f. operand_behind [] (settled true (valued code value f fresh))) b ∙ e)
 
-pub settled-kept : (further fixed : Bool) (code : List FlatStmt) (value : Expr) (fresh : Fresh) → (further && not fixed) ≡ false
+pub settled-fixed : (further fixed : Bool) (code : List FlatStmt) (value : Expr) (fresh : Fresh) → fixed ≡ true
     → operand_behind [] (settled further (valued code value fixed fresh)) ≡ made code value fresh
-settled-kept true true code value fresh e = refl
-settled-kept true false code value fresh e = absurd (cc)
-settled-kept false fixed code value fresh e = refl
+settled-fixed true true code value fresh e = refl
+settled-fixed true false code value fresh e = absurd (cc)
+settled-fixed false fixed code value fresh e = refl
+
+pub settled-last : (further fixed : Bool) (code : List FlatStmt) (value : Expr) (fresh : Fresh) → further ≡ false
+    → operand_behind [] (settled further (valued code value fixed fresh)) ≡ made code value fresh
+settled-last true fixed code value fresh e = absurd (cc)
+settled-last false fixed code value fresh e = refl

@@ -1,13 +1,14 @@
 -- What is known of the operands of a form that is well formed.
-use Rattle.std.proofs.Common.{◌≡◌, ◌∙◌, refl, sym, ap, subst, ℕ, zero, suc, ◌+◌, ◌<◌, ◌≤◌, Bool, true, false, List, [], ◌∷◌, ◌++◌, map, length, Option, None, Some, slice_get, arith}
-use Rattle.std.specs.Prelude.{◌==◌, ◌&&◌, ◌||◌, not, if◌then◌else◌, IsTrue, replicate, option_and_then}
+use Rattle.std.proofs.Common.{◌≡◌, ◌∙◌, refl, sym, ap, subst, ℕ, zero, suc, Bool, true, false, List, [], ◌∷◌, ◌++◌, map, Option, None, Some, slice_get}
+use Rattle.hl_meaning.specs.declared.program.Parameter.{Parameter}
+use Rattle.std.specs.Prelude.{◌==◌, ◌&&◌, not, if◌then◌else◌, IsTrue, replicate, option_map}
 use Rattle.std.specs.List.{list_all}
 use Rattle.std.proofs.lemmas.Bool.{false≢true}
 use Rattle.std.proofs.lemmas.Option.{none-some}
 use Rattle.lane_core.specs.declared.event.AtomicKind.{AtomicKind}
 use Rattle.lane_core.specs.declared.event.AtomicKind.TheVariants.{Add, And, Or, Xor, IMin, IMax, UMin, UMax, Exchange}
 use Rattle.hl_meaning.specs.declared.ty.Kind.{Kind}
-use Rattle.hl_meaning.specs.declared.ty.Kind.TheVariants.{Bool as BoolKind, Int as IntKind, Uint as UintKind}
+use Rattle.hl_meaning.specs.declared.ty.Kind.TheVariants.{Bool as BoolKind, Uint as UintKind}
 use Rattle.hl_meaning.specs.declared.intrinsic.Signature.{Signature}
 use Rattle.hl_meaning.specs.declared.intrinsic.Signature.TheVariants.{Numbers, Uints, Truths, Bits, Atomic, Barrier, LaneTruth, LaneNumber, Vote, Ballot, AllEqual, ReadLaneAt, ReadLaneFirst, CountTruths}
 use Rattle.hl_meaning.specs.declared.program.Copying.{Copying}
@@ -16,13 +17,12 @@ use Rattle.hl_meaning.specs.Types.{Ty, array_type, components_type, is_alike, is
 use Rattle.hl_meaning.specs.Conversions.{converts}
 use Rattle.hl_meaning.specs.Operators.{binary_type, comparing, computing, is_among, joining, negating, signing, unary_type}
 use Rattle.hl_meaning.specs.Intrinsics.{HasSignature, HasSignatureOf, signature_of}
-use Rattle.hl_meaning.specs.Trees.{Arg, Args, Expr, Exprs, Form, Location, MaybeExpr, MaybeLocation, PathPart, PathParts, Root, Target, a_location, an_expr, atomic_form, binary_form, build_form, bytes_target, call_form, choose_form, constant_root, convert_form, element_root, index_part, intrinsic_form, literal_form, member_part, method_form, more_args, more_exprs, more_parts, no_args, no_expr, no_exprs, no_location, no_parts, pick_form, place_arg, place_target, place_type, read_form, shared_root, some_expr, some_location, swizzle_part, type_of, types_of, unary_form, value_arg, variable_root, write_form}
-use Rattle.hl_meaning.specs.Programs.{StructDef}
-use Rattle.hl_meaning.specs.Places.{Scope, is_end, is_longer_swizzle, is_writable_place, path_type, root_type}
-use Rattle.hl_meaning.specs.WellFormed.{AreExprs, AreParts, ArePassed, Assigns, Builds, IsCompared, IsDeclared, IsExpr, IsForm, IsMethod, IsOriginal, IsPassed, IsPlace, IsTarget, IsWord, Param, callee_params, callee_result}
-use Rattle.hl_inline.specs.IndexedVariables.{Mention, call_mention, expr_mentions, form_mentions, location_mentions, place_mention, parts_mentions, root_mentions}
-use Rattle.hl_inline.specs.Operands.{arg_exprs, args_exprs, expr_if_list, exprs_list, operand_exprs, parts_exprs, place_exprs, place_if_exprs, root_exprs, target_exprs}
-use Rattle.hl_inline.proofs.Induction.{Every, every_append, every_back, every_front, every_map}
+use Rattle.hl_meaning.specs.Trees.{Arg, Args, Expr, Exprs, Form, Location, MaybeExpr, MaybeLocation, PathParts, Target, a_location, atomic_form, binary_form, build_form, bytes_target, call_form, choose_form, constant_root, convert_form, element_root, index_part, intrinsic_form, literal_form, member_part, method_form, more_args, more_exprs, more_parts, no_args, no_expr, no_exprs, no_location, no_parts, pick_form, place_arg, place_target, place_type, read_form, shared_root, some_expr, some_location, swizzle_part, type_of, types_of, unary_form, value_arg, variable_root, write_form}
+use Rattle.hl_meaning.specs.Programs.{StructDef, Variable}
+use Rattle.hl_meaning.specs.Places.{Scope, is_end, is_longer_swizzle, path_type, variable_type}
+use Rattle.hl_meaning.specs.WellFormed.{AreExprs, AreParts, ArePassed, Assigns, Builds, IsCompared, IsDeclared, IsExpr, IsForm, IsMethod, IsOriginal, IsPassed, IsPlace, IsTarget, IsWord, Param, callee_params, param_of}
+use Rattle.hl_inline.specs.Operands.{arg_exprs, args_exprs, expr_if_list, exprs_list, operand_exprs, parts_exprs, place_exprs, place_if_exprs, target_exprs}
+use Rattle.hl_inline.proofs.Induction.{Every, every_append}
 
 -- what isn't true holds nowhere
 pub never : {A : Type 0} → IsTrue false → A
@@ -236,6 +236,15 @@ abbrev pub ParamsSome : List (Option Param) → Type 0
 ParamsSome [] = Unit {0}
 ParamsSome (None ∷ params) = ParamsSome params
 ParamsSome (Some param ∷ params) = IsSome param.ty × ParamsSome params
+
+-- the parameters of a function whose variables have values
+pub params_some : (variables : List Variable) (parameters : List Parameter) → ((v : ℕ) (ty : Ty) → variable_type variables v ≡ Some ty → IsSome ty) → ParamsSome (map (param_of variables) parameters)
+params_some variables [] h = tt
+params_some variables (p ∷ parameters) h = by_type (variable_type variables p.variable) refl (params_some variables parameters h)
+  where
+    by_type : (o : Option Ty) → variable_type variables p.variable ≡ o → ParamsSome (map (param_of variables) parameters) → ParamsSome (option_map (λ ty. record { ty = ty; copying = p.copying }) o ∷ map (param_of variables) parameters)
+    by_type None e rest = rest
+    by_type (Some ty) e rest = (h p.variable ty e, rest)
 
 passed_values : (s : Scope) (ty : Ty) (copying : Copying) (arg : Arg) → IsSome ty → IsPassed s ty copying arg → Every (IsValue s) (arg_exprs arg)
 passed_values s ty CopyIn (value_arg value) some h = ((h.0, some_of value ty h.1 some), tt)

@@ -1,10 +1,10 @@
 -- What is built so far, as plain data: statements and what is free, behind which more is emitted.
-use Rattle.std.specs.Prelude.{ℕ, zero, suc, Bool, true, false, if◌then◌else◌, List, [], ◌∷◌, ◌++◌, map, Option}
+use Rattle.std.specs.Prelude.{ℕ, zero, suc, Bool, true, false, if◌then◌else◌, List, [], ◌∷◌, ◌++◌, length, map, Option}
 use Rattle.hl_meaning.specs.declared.expression.Expr as held_expr
 use Rattle.hl_meaning.specs.declared.expression.PathPart as held_part
 use Rattle.hl_meaning.specs.declared.program.FunctionDef.{FunctionDef}
 use Rattle.hl_meaning.specs.Trees.{Expr, MaybeStmt, PathPart, Stmt, index_part}
-use Rattle.hl_meaning.specs.Programs.{Constant, Variable}
+use Rattle.hl_meaning.specs.Programs.{Constant, Program, Variable}
 use Rattle.hl_meaning.specs.Views.{plain_expr, plain_function, plain_part, plain_variable}
 use Rattle.hl_inline.specs.declared.context.Context.{Context}
 use Rattle.hl_inline.specs.declared.context.Jumps.{Jumps}
@@ -14,7 +14,7 @@ use Rattle.hl_inline.specs.FlatTrees as plain
 use Rattle.hl_inline.specs.FlatTrees.{flat_block, flat_if, flat_named, flat_run}
 use Rattle.hl_inline.specs.FlatViews.{flat_stmts_of, plain_flat_stmt}
 use Rattle.hl_inline.specs.Flattening as flattening
-use Rattle.hl_inline.specs.Flattening.{Inlined, Instance, Laid, Passed, Valued, Values, any_calls, as_alternative, as_one, emitter, inlined_after, jumps_of, laid, laid_then, lay, lay_body, lay_if, lay_loop, lay_run_if, lay_test, lay_test_if, part_emitters, with_jumps}
+use Rattle.hl_inline.specs.Flattening.{Inlined, Instance, Laid, Passed, Valued, Values, any_calls, as_alternative, as_one, emitter, entry_fresh, entry_instance, entry_of, inlined_after, jumps_of, laid, laid_then, laid_with, lay, lay_body, lay_if, lay_loop, lay_run_if, lay_test, lay_test_if, part_emitters, set_constants, set_inputs, with_jumps}
 use Rattle.hl_inline.specs.Operands.{first_expr}
 
 -- what is held
@@ -138,3 +138,9 @@ expr_calls k i expr = (emitter k i (plain_expr expr)).calls
 
 abbrev pub part_calls : List Inlined → Instance → held_part.PathPart → Bool
 part_calls k i part = any_calls (part_emitters k i (plain_part part))
+
+-- the whole code of a program: what sets the constants and the inputs, and the body of the entry
+abbrev pub entry_code : Program → Laid
+entry_code p =
+    laid_with (set_constants p.structs 0 p.constants ++ set_inputs (length p.constants) (entry_of p).parameters)
+        (named_body (entry_of p) (entry_instance p (entry_of p)) (entry_fresh p (entry_of p)))

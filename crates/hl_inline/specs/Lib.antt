@@ -8,3 +8,5 @@ pub mod Early
 pub mod Marking
 pub mod Flattening
 pub mod Building
+pub mod Keeps
+pub mod HeldFlat

@@ -14,6 +14,7 @@ mod flat;
 mod fresh;
 mod holding;
 mod inlining;
+pub mod laws;
 mod layout;
 mod made;
 mod mentions;

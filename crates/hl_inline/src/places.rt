@@ -73,8 +73,7 @@ fn emit_parts(
     fresh: &mut Fresh,
     code: &mut FlatStmts,
 ) -> Result<PathParts, NoMemory>
-    requires { last ≡ last_true (map (part_calls (callees_in context.now) (instance_in context.now)) parts.now) }
-    ensures { IfOk result (λ value. made_behind (plain_code code.old) (filled_parts (plain_parts parts.now)) (emit_all further (parts_emitters (callees_in context.now) (instance_in context.now) (plain_parts parts.now)) (plain_fresh fresh.old)) ≡ made (plain_code code.new) (plain_parts value) (plain_fresh fresh.new)) }
+    ensures { IfOk result (λ value. last ≡ last_true (map (part_calls (callees_in context.now) (instance_in context.now)) parts.now) → made_behind (plain_code code.old) (filled_parts (plain_parts parts.now)) (emit_all further (parts_emitters (callees_in context.now) (instance_in context.now) (plain_parts parts.now)) (plain_fresh fresh.old)) ≡ made (plain_code code.new) (plain_parts value) (plain_fresh fresh.new)) }
 {
     let mut made = PathParts::new(context.alloc);
     for (index, part) in parts.as_slice().iter().enumerate() {

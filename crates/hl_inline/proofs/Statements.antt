@@ -1,25 +1,14 @@
 -- What becomes of statements does what the statements do.
-use Rattle.std.proofs.Common.{◌≡◌, ◌∙◌, refl, sym, ap, subst, ℕ, zero, suc, ◌+◌, ◌<◌, ◌≤◌, ◌⊎◌, inl, inr, Bool, true, false, List, [], ◌∷◌, ◌++◌, map, length, Option, None, Some, slice_get, arith}
-use Rattle.std.specs.Prelude.{◌==◌, if◌then◌else◌, IsTrue, slice_index}
-use Rattle.std.proofs.lemmas.List.{append_assoc, append-nil, length-map}
-use Rattle.std.proofs.lemmas.Bool.{eq-eqb, ne_eqb, true≢false}
-use Rattle.std.proofs.lemmas.Option.{none-some, same_Some}
+use Rattle.std.proofs.Common.{◌≡◌, ◌∙◌, refl, sym, ap, subst, ℕ, zero, suc, inl, inr, List, [], ◌∷◌, ◌++◌}
+use Rattle.std.specs.Prelude.{if◌then◌else◌}
+use Rattle.std.proofs.lemmas.Bool.{eq-eqb, ne_eqb}
 use Rattle.lane_core.specs.declared.event.Asked.TheVariants.{Goes}
-use Rattle.lane_core.specs.Lane.{Lane, Run, standing}
-use Rattle.hl_meaning.specs.Types.{Ty, bool_type, is_void, void_type}
-use Rattle.hl_meaning.specs.Trees.{Args, Expr, MaybeStmt, Stmt, Stmts, an_expr, atomic_form, binary_form, block_stmt, break_stmt, build_form, call_form, choose_form, continue_stmt, convert_form, do_stmt, for_stmt, if_stmt, intrinsic_form, literal_form, local_stmt, method_form, more_stmts, no_stmt, no_stmts, pick_form, read_form, return_stmt, run_stmt, some_stmt, type_of, unary_form, while_stmt, write_form}
-use Rattle.hl_meaning.specs.Places.{Scope, variable_type}
-use Rattle.hl_meaning.specs.Programs.{FunctionDef, Variable}
-use Rattle.hl_meaning.specs.Layout.{words_of}
-use Rattle.hl_meaning.specs.WellFormed.{AreStmts, IsExpr, IsPlace, IsStmt, IsStmtIf, callee_params}
-use Rattle.lane_core.specs.Words.{holds}
-use Rattle.hl_source.specs.State.{Context, Progress, State, after, ends_at, goes_with, out_of_turns, variable_words, with_variable}
-use Rattle.hl_source.specs.Statements.{Doing, Leaving, at_end, by_break, by_continue, by_return, choice, computes, computes_if, condition, condition_if, declares, does, does_all, does_if, leaves, returns, tested_turn, testing_turn, then_loop, then_next, then_turn, turns}
-use Rattle.hl_source.specs.Expressions.{evaluates}
-use Rattle.hl_inline.specs.FlatTrees.{Flat, FlatStmt, MaybeFlatStmt, flat_block, flat_if, flat_leave, flat_local, flat_loop, flat_named, flat_run, more_flat_stmts, no_flat_stmt, no_flat_stmts, some_flat_stmt}
-use Rattle.hl_inline.specs.FlatViews.{flat_stmts_of}
-use Rattle.hl_inline.specs.FlatLane.{FlatDoing, FlatLeaving, flat_choice, flat_context, flat_done, flat_end, flat_to, flat_turns, named_end, performs, performs_all, performs_if, then_flat}
-use Rattle.hl_inline.proofs.Performing.{Opens, Runs, Yields, perform, perform_append, perform_ends, perform_next, perform_one}
+use Rattle.lane_core.specs.Lane.{Lane, standing}
+use Rattle.hl_source.specs.State.{Progress, State, after, ends_at, goes_with}
+use Rattle.hl_source.specs.Statements.{Doing, Leaving, at_end, by_break, by_continue, by_return, does, then_loop, then_next, then_turn, turns}
+use Rattle.hl_inline.specs.FlatTrees.{Flat, FlatStmt, flat_named}
+use Rattle.hl_inline.specs.FlatLane.{FlatDoing, FlatLeaving, flat_end, flat_to, flat_turns, named_end, performs, performs_if, then_flat}
+use Rattle.hl_inline.proofs.Performing.{Opens, Yields, perform, perform_append, perform_ends, perform_next, perform_one}
 use Rattle.hl_inline.specs.Flattening.{as_alternative, as_one}
 
 -- code as one statement does what the code does
@@ -84,7 +73,7 @@ module _ (exit break_to continue_to : ℕ) where
 
 -- names
 
-same_name : (name : ℕ) (t : State) → named_end name (flat_to name) t ≡ goes_with flat_end t
+pub same_name : (name : ℕ) (t : State) → named_end name (flat_to name) t ≡ goes_with flat_end t
 same_name name t = ap (λ b. goes_with (if b then flat_end else flat_to name) t) (eq-eqb name name refl)
 
 other_name : (name other : ℕ) (t : State) → (name ≡ other → ⊥) → named_end name (flat_to other) t ≡ goes_with (flat_to other) t
@@ -100,10 +89,13 @@ body_turn f lane n exit break_to continue_to apart apart' A J I W less weak body
     -- the body inside its name
     named : (q : Progress FlatLeaving) → perform f lane n body t ≡ q → performs f lane n (flat_named continue_to (as_one body)) t ≡ after q (named_end continue_to)
     named q e = ap (λ q. after q (named_end continue_to)) (performs_as_one f lane n body t ∙ e)
+
     onward : (u : State) → performs f lane n (flat_named continue_to (as_one body)) t ≡ goes_with flat_end u → perform f lane n (flat_named continue_to (as_one body) ∷ behind) t ≡ perform f lane n behind u
     onward u e = ap (λ q. after q (then_flat (perform f lane n behind))) e
+
     outward : (name : ℕ) (u : State) → performs f lane n (flat_named continue_to (as_one body)) t ≡ goes_with (flat_to name) u → perform f lane n (flat_named continue_to (as_one body) ∷ behind) t ≡ goes_with (flat_to name) u
     outward name u e = ap (λ q. after q (then_flat (perform f lane n behind))) e
+
     by_leaving : (p : Progress Leaving) → DoesAs exit break_to continue_to A J J W p (perform f lane n body t) → TurnAs exit break_to I W (after p (then_turn next)) (perform f lane n (flat_named continue_to (as_one body) ∷ behind) t)
     by_leaving (ends_at run) e = ap (λ q. after q (then_flat (perform f lane n behind))) (named (ends_at run) e)
     by_leaving (goes_with at_end s) (u, e, a) =
@@ -125,6 +117,7 @@ turns_alike exit break_to outer_break outer_continue apart I C W same turn flat_
   where
     whole : (q : Progress FlatLeaving) → flat_turn t ≡ q → after (flat_turns (suc k) flat_turn t) (named_end break_to) ≡ after (after q (then_flat (flat_turns k flat_turn))) (named_end break_to)
     whole q e = ap (λ q. after (after q (then_flat (flat_turns k flat_turn))) (named_end break_to)) e
+
     by_turn : ((s1 t1 : State) → I s1 t1 → DoesAs exit outer_break outer_continue I I C W (turns k turn s1) (after (flat_turns k flat_turn t1) (named_end break_to))) →
         (p : Progress Leaving) → TurnAs exit break_to I W p (flat_turn t) → DoesAs exit outer_break outer_continue I I C W (after p (then_loop (turns k turn))) (after (flat_turns (suc k) flat_turn t) (named_end break_to))
     by_turn next (ends_at run) e = whole (ends_at run) e

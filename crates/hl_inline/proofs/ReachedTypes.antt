@@ -1,8 +1,8 @@
 -- The type of what steps reach is the type that they lead to.
-use Rattle.std.proofs.Common.{◌≡◌, ◌∙◌, refl, sym, ap, subst, ℕ, zero, suc, ◌+◌, ◌*◌, ◌%◌, ◌^◌, ◌<◌, ◌≤◌, ◌⊎◌, inl, inr, Bool, true, false, List, [], ◌∷◌, ◌++◌, map, length, Option, None, Some, slice_get, unwrap_or, arith}
-use Rattle.std.specs.Prelude.{◌==◌, ◌&&◌, not, if◌then◌else◌, IsTrue, drop, nat_le, nat_lt, option_and_then, option_map, replicate, slice_index}
+use Rattle.std.proofs.Common.{◌≡◌, ◌∙◌, refl, sym, ap, subst, ℕ, ◌+◌, ◌*◌, ◌<◌, ◌≤◌, ◌⊎◌, inl, inr, Bool, true, false, List, [], ◌∷◌, ◌++◌, length, Option, None, Some, slice_get, arith}
+use Rattle.std.specs.Prelude.{◌&&◌, not, if◌then◌else◌, IsTrue, drop, nat_le, nat_lt, option_and_then, option_map, replicate, slice_index}
 use Rattle.std.specs.List.{list_all}
-use Rattle.std.proofs.lemmas.Bool.{cases_Bool, eqb-true, lt-ltb, ltb-true, true≢false}
+use Rattle.std.proofs.lemmas.Bool.{lt-ltb, ltb-true, true≢false}
 use Rattle.std.proofs.lemmas.Option.{none-some, same_Some}
 use Rattle.std.proofs.Math.Nat.{mod-eq_of_lt}
 use Rattle.hl_meaning.specs.declared.ty.Kind.{Kind}
@@ -15,7 +15,7 @@ use Rattle.hl_meaning.specs.WellFormed.{most_words}
 use Rattle.hl_meaning.proofs.LayoutLemmas.{words-scalar}
 use Rattle.lane_core.specs.Words.{wrapping_add, wrapping_mul}
 use Rattle.hl_source.specs.Operations.{component_kind}
-use Rattle.hl_source.specs.Offsets.{Reached, at_index, at_member, at_swizzle, element_of, further, literal_indexes, literal_word, member_of, reached, start_of}
+use Rattle.hl_source.specs.Offsets.{Reached, at_index, at_member, at_swizzle, element_of, further, literal_indexes, literal_word, member_of, reached}
 use Rattle.hl_inline.proofs.KindParts.{AreStructs, PartOf, kinds-scalar, kinds-vector, part_component, part_element, part_further, part_member, part_within, replicate_at}
 use Rattle.hl_inline.proofs.Typed.{and_left, and_right, never}
 
@@ -60,6 +60,7 @@ member_found structs struct number t e = by_struct (then_some (λ d. option_map 
         (d : StructDef) × (m : Member) × (slice_get structs struct ≡ Some d) × (slice_get d.members number ≡ Some m) × (m.ty ≡ t)
     by_member d there None is e = absurd (none-some t e)
     by_member d there (Some m) is e = (d, m, there, is, same_Some m.ty t e)
+
     by_struct : (d : StructDef) × (slice_get structs struct ≡ Some d) × (option_map (λ m. m.ty) (slice_get d.members number) ≡ Some t) →
         (d : StructDef) × (m : Member) × (slice_get structs struct ≡ Some d) × (slice_get d.members number ≡ Some m) × (m.ty ≡ t)
     by_struct (d, there, e) = by_member d there (slice_get d.members number) refl e
@@ -154,7 +155,7 @@ reached_as structs from (more_parts (swizzle_part (letter ∷ other ∷ letters)
     let step = swizzle_step structs from ty (letter ∷ other ∷ letters) on.1 is on.2 in
     let ends : Some on.1 ≡ Some to = subst (λ r. path_type structs on.1 r ≡ Some to) end on.3 in
     subst (λ r. ReachedAs structs (reached structs (at_swizzle from (letter ∷ other ∷ letters)) r ixs) to) (sym end)
-        (inr (record { kind = step.kind; size = step.size; kinds = step.kinds; low = step.low; is = sym (step.is ∙ same_Some on.1 to ends); longer = longer }))
+    (inr (record { kind = step.kind; size = step.size; kinds = step.kinds; low = step.low; is = sym (step.is ∙ same_Some on.1 to ends); longer = longer }))
 
 -- Where the indexes are literals, what steps reach is a part of where they begin.
 
@@ -194,14 +195,14 @@ member_part_at structs are whole small from (struct_type struct) number t is e p
     ap (λ x. member_of structs x number) is ∙ (ap (λ o. option_and_then (λ d. slice_get d.members number) o) found.2 ∙ found.3) in
     subst (λ o. PartOf structs whole (at_member from o).offset (at_member from o).ty) (sym member_is)
     (part_next structs whole small from found.1.ty found.1.offset p
-        (subst (λ x. PartOf structs x found.1.offset found.1.ty) (sym is) (part_member structs are struct number found.0 found.1 found.2 found.3)))
+    (subst (λ x. PartOf structs x found.1.offset found.1.ty) (sym is) (part_member structs are struct number found.0 found.1 found.2 found.3)))
 
 element_at : (structs : List StructDef) (whole : Ty) → words_of structs whole ≤ most_words → (from : Reached) (element : Ty) (index : ℕ) → element_of from.ty ≡ element → PartOf structs whole from.offset from.ty →
     PartOf structs from.ty (index * words_of structs element) element → PartOf structs whole (at_index structs from index).offset (at_index structs from index).ty
 element_at structs whole small from element index is p q =
     subst (λ x. PartOf structs whole (wrapping_add from.offset (wrapping_mul index (words_of structs x))) x) (sym is)
     (subst (λ n. PartOf structs whole (wrapping_add from.offset n) element)
-        (sym (small_product index (words_of structs element) (omega (arith, part_within structs from.ty element (index * words_of structs element) q, part_within structs whole from.ty from.offset p, small))))
+    (sym (small_product index (words_of structs element) (omega (arith, part_within structs from.ty element (index * words_of structs element) q, part_within structs whole from.ty from.offset p, small))))
     (part_next structs whole small from element (index * words_of structs element) p q))
 
 index_part_at : (structs : List StructDef) (whole : Ty) → words_of structs whole ≤ most_words → (from : Reached) (ty : Ty) (index : Expr) (t : Ty) → from.ty ≡ ty → part_type structs ty (index_part index) ≡ Some t →
@@ -217,10 +218,10 @@ index_part_at structs whole small from (vector_type kind size) index t is e lite
     let low = literal_within size index literal (if_none (is_index_within size index) (Some (scalar_type kind)) t e).0 in
     let one : literal_word index ≡ literal_word index * words_of structs (scalar_type kind) = sym (ap (λ n. literal_word index * n) (words-scalar structs kind) ∙ omega arith) in
     element_at structs whole small from (scalar_type kind) (literal_word index) (ap element_of is) p
-        (subst (λ x. PartOf structs x (literal_word index * words_of structs (scalar_type kind)) (scalar_type kind)) (sym is)
-        (subst (λ n. PartOf structs (vector_type kind size) n (scalar_type kind)) one (part_component structs kind size (literal_word index) low)))
+    (subst (λ x. PartOf structs x (literal_word index * words_of structs (scalar_type kind)) (scalar_type kind)) (sym is)
+    (subst (λ n. PartOf structs (vector_type kind size) n (scalar_type kind)) one (part_component structs kind size (literal_word index) low)))
 
-pick_part : (structs : List StructDef) → AreStructs structs → (whole : Ty) → words_of structs whole ≤ most_words → (from : Reached) (parts : PathParts) (ty to : Ty) → from.ty ≡ ty → from.letters ≡ [] →
+pub pick_part : (structs : List StructDef) → AreStructs structs → (whole : Ty) → words_of structs whole ≤ most_words → (from : Reached) (parts : PathParts) (ty to : Ty) → from.ty ≡ ty → from.letters ≡ [] →
     path_type structs ty parts ≡ Some to → IsTrue (has_literal_indexes parts) → PartOf structs whole from.offset from.ty →
     PartOf structs whole (reached structs from parts (literal_indexes parts)).offset (reached structs from parts (literal_indexes parts)).ty
 pick_part structs are whole small from no_parts ty to is plain e literal p = p
@@ -232,7 +233,7 @@ pick_part structs are whole small from (more_parts (index_part index) rest) ty t
     let on = path_on structs ty (index_part index) rest to e in
     let step = index_step structs from ty index (literal_word index) on.1 is on.2 in
     pick_part structs are whole small (at_index structs from (literal_word index)) rest on.1 to step.type step.letters on.3 (and_right (is_literal index) (has_literal_indexes rest) literal)
-        (index_part_at structs whole small from ty index on.1 is on.2 (and_left (is_literal index) (has_literal_indexes rest) literal) p)
+    (index_part_at structs whole small from ty index on.1 is on.2 (and_left (is_literal index) (has_literal_indexes rest) literal) p)
 pick_part structs are whole small from (more_parts (swizzle_part []) rest) ty to is plain e literal p =
     let on = path_on structs ty (swizzle_part []) rest to e in never ((swizzle_step structs from ty [] on.1 is on.2).some)
 pick_part structs are whole small from (more_parts (swizzle_part (letter ∷ [])) rest) ty to is plain e literal p =
@@ -240,8 +241,8 @@ pick_part structs are whole small from (more_parts (swizzle_part (letter ∷ [])
     let step = swizzle_step structs from ty (letter ∷ []) on.1 is on.2 in
     let low = ltb-true letter step.size (true_of _ (and_left (nat_lt letter step.size) true step.low)) in
     pick_part structs are whole small (further from (scalar_type (component_kind from.ty)) letter) rest on.1 to (ap scalar_type step.component ∙ step.is) refl on.3 literal
-        (part_next structs whole small from (scalar_type (component_kind from.ty)) letter p
-            (subst (λ k. PartOf structs from.ty letter (scalar_type k)) (sym step.component) (part_letter structs from.ty step.size letter step.kind step.kinds low)))
+    (part_next structs whole small from (scalar_type (component_kind from.ty)) letter p
+    (subst (λ k. PartOf structs from.ty letter (scalar_type k)) (sym step.component) (part_letter structs from.ty step.size letter step.kind step.kinds low)))
 pick_part structs are whole small from (more_parts (swizzle_part (letter ∷ other ∷ letters)) rest) ty to is plain e literal p =
     let on = path_on structs ty (swizzle_part (letter ∷ other ∷ letters)) rest to e in
     let longer : 1 < length (letter ∷ other ∷ letters) = omega arith in

@@ -1,28 +1,26 @@
 -- What intrinsic functions give has the words of its type.
-use Rattle.std.proofs.Common.{◌≡◌, ◌∙◌, refl, sym, ap, subst, ℕ, zero, suc, ◌+◌, ◌<◌, ◌≤◌, Bool, true, false, List, [], ◌∷◌, map, length, Option, None, Some, slice_get, unwrap_or, option_map, arith}
-use Rattle.std.specs.Prelude.{IsTrue, replicate, slice_index}
-use Rattle.std.specs.List.{list_all, list_any, range_with_len}
-use Rattle.std.proofs.lemmas.List.{length-map, length-replicate}
+use Rattle.std.proofs.Common.{◌≡◌, ◌∙◌, refl, sym, ap, subst, ℕ, zero, suc, List, [], ◌∷◌, map, length, Option, None, Some, slice_get, unwrap_or, option_map, arith}
+use Rattle.std.specs.Prelude.{IsTrue, slice_index}
+use Rattle.std.proofs.lemmas.List.{length-map}
+use Rattle.lane_core.specs.declared.event.Event.TheVariants.{Barrier as BarrierEvent, Wave}
 use Rattle.lane_core.specs.declared.event.WaveKind.{WaveKind}
 use Rattle.hl_meaning.specs.declared.ty.Kind.{Kind}
 use Rattle.hl_meaning.specs.declared.ty.Kind.TheVariants.{Bool as BoolKind, Int as IntKind, Uint as UintKind}
 use Rattle.hl_meaning.specs.declared.intrinsic.Signature.{Signature}
 use Rattle.hl_meaning.specs.declared.intrinsic.Signature.TheVariants.{Numbers, Uints, Truths, Bits, Atomic, Barrier, LaneTruth, LaneNumber, Vote, Ballot, AllEqual, ReadLaneAt, ReadLaneFirst, CountTruths}
 use Rattle.hl_meaning.specs.Types.{Ty, array_type, bool_type, component_count, is_basic, is_numeric, is_of, scalar_type, struct_type, uint_type, vector_type, void_type, with_kind}
-use Rattle.hl_meaning.specs.Intrinsics.{HasSignature, HasSignatureOf, Intrinsic, TakesAndGives, intrinsics, signature_of}
+use Rattle.hl_meaning.specs.Intrinsics.{HasSignature, HasSignatureOf, Intrinsic, TakesAndGives, intrinsics}
 use Rattle.hl_meaning.specs.Programs.{StructDef}
-use Rattle.hl_meaning.specs.Layout.{kinds_of}
-use Rattle.lane_core.specs.Words.{truth}
+use Rattle.lane_core.specs.Words.{truth, wrapped}
 use Rattle.hl_source.specs.Operations.{component_kind, map_2, map_3, word_as}
-use Rattle.hl_source.specs.State.{Context, Progress, State, after, asks, asks_word, each, first_then, goes_with, no_value, reply_words}
+use Rattle.hl_source.specs.State.{Context, Progress, State, asks, asks_word, each, reply_words}
 use Rattle.hl_source.specs.Intrinsics.{Work, barrier, from_all, from_one, from_three, from_two, of_lane, own_form, wave, wave_alone, wave_at, wave_four, wave_word, wave_words, work_of, worked, works}
 use Rattle.hl_inline.proofs.Induction.{Every}
-use Rattle.hl_inline.proofs.ProgressLemmas.{giving}
 use Rattle.hl_inline.proofs.FittingWords.{Fits, HasKinds, word_as_twice}
 use Rattle.hl_inline.proofs.Performing.{Yields}
 use Rattle.hl_inline.proofs.KindParts.{kinds-void}
 use Rattle.hl_inline.proofs.Typed.{never}
-use Rattle.hl_inline.proofs.ValueFits.{FitTypes, basic_fits, basic_length, basic_numeric, basic_of_kind, numbers_fit, truth_fits, with_kind_basic, with_kind_count, with_kind_kind, yields_after, yields_any, yields_giving, yields_map}
+use Rattle.hl_inline.proofs.ValueFits.{FitTypes, basic_fits, basic_length, basic_numeric, basic_of_kind, length-map_2, numbers_fit, truth_fits, with_kind_basic, with_kind_count, yields_after, yields_any, yields_giving, yields_map}
 
 -- what a function with a signature may do
 abbrev pub Suits : Signature → Work → Type 0
@@ -78,21 +76,15 @@ each_kind kind part h [] s = (refl, tt)
 each_kind kind part h (x ∷ xs) s =
     yields_after (λ w. word_as kind w ≡ w) (λ ws. (length ws ≡ suc (length xs)) × Every (λ w. word_as kind w ≡ w) ws) (part x s) _ (h x s) (λ w s1 is.
     yields_giving (λ ws. (length ws ≡ length xs) × Every (λ w. word_as kind w ≡ w) ws) (λ ws. (length ws ≡ suc (length xs)) × Every (λ w. word_as kind w ≡ w) ws) (λ ws. w ∷ ws)
-        (λ ws r. (ap suc r.0, (is, r.1))) (each part xs s1) (each_kind kind part h xs s1))
+    (λ ws r. (ap suc r.0, (is, r.1))) (each part xs s1) (each_kind kind part h xs s1))
 
 wave_fits : (structs : List StructDef) (kind : WaveKind) (lane : ℕ) (ty : Ty) (xs : List ℕ) (s : State) → IsTrue (is_basic ty) → length xs ≡ component_count ty →
     Yields (Fits structs ty) (wave_words kind lane (component_kind ty) xs s)
 wave_fits structs kind lane ty xs s basic e =
-    yields_map _ _ (λ ws r. basic_fits structs ty ws basic (r.0 ∙ e) r.1) _
+    yields_map (λ ws. (length ws ≡ length xs) × Every (λ w. word_as (component_kind ty) w ≡ w) ws) (Fits structs ty) (λ ws r. basic_fits structs ty ws basic (r.0 ∙ e) r.1) (wave_words kind lane (component_kind ty) xs s)
     (each_kind (component_kind ty) (wave_word kind lane (component_kind ty))
-        (λ x s1. yields_giving (λ w. Unit {0}) (λ w. word_as (component_kind ty) w ≡ w) (word_as (component_kind ty)) (λ w h. word_as_twice (component_kind ty) w) (asks_word _ s1) (yields_any (λ w. Unit {0}) (λ w. tt) (asks_word _ s1))) xs s)
-
-length-two : {A : Type 0} (f : ℕ → ℕ → A) (xs ys : List ℕ) (n : ℕ) → length xs ≡ n → length ys ≡ n → length (map_2 f xs ys) ≡ n
-length-two f [] [] n e e' = e
-length-two f [] (y ∷ ys) n e e' = absurd (omega (arith, e, e'))
-length-two f (x ∷ xs) [] n e e' = absurd (omega (arith, e, e'))
-length-two f (x ∷ xs) (y ∷ ys) zero e e' = absurd (omega (arith, e))
-length-two f (x ∷ xs) (y ∷ ys) (suc n) e e' = ap suc (length-two f xs ys n (omega (arith, e)) (omega (arith, e')))
+    (λ x s1. yields_giving (λ w. Unit {0}) (λ w. word_as (component_kind ty) w ≡ w) (word_as (component_kind ty)) (λ w h. word_as_twice (component_kind ty) w) (asks_word (Wave kind x lane) s1)
+    (yields_any (λ w. Unit {0}) (λ w. tt) (asks_word (Wave kind x lane) s1))) xs s)
 
 length-three : (f : ℕ → ℕ → ℕ → ℕ) (xs ys zs : List ℕ) (n : ℕ) → length xs ≡ n → length ys ≡ n → length zs ≡ n → length (map_3 f xs ys zs) ≡ n
 length-three f [] [] [] n e e' e'' = e
@@ -129,14 +121,14 @@ number_one : (structs : List StructDef) (c : Context) (f : Kind → ℕ → ℕ)
 number_one structs c f ty from words s numeric basic same h =
     let one = fit_one structs from words h in
     subst (λ l. Yields (Fits structs ty) (worked c (from_one f) ty l s)) (sym one.1)
-        (numbers_fit structs ty (map (f (component_kind ty)) one.0) numeric (length-map one.0 (f (component_kind ty)) ∙ (basic_length structs from one.0 basic one.2 ∙ same)))
+    (numbers_fit structs ty (map (f (component_kind ty)) one.0) numeric (length-map one.0 (f (component_kind ty)) ∙ (basic_length structs from one.0 basic one.2 ∙ same)))
 
 wave_one : (structs : List StructDef) (c : Context) (kind : Kind → WaveKind) (ty from : Ty) (words : List (List ℕ)) (s : State) → IsTrue (is_basic ty) → IsTrue (is_basic from) → component_count from ≡ component_count ty → FitTypes structs (from ∷ []) words →
     Yields (Fits structs ty) (worked c (wave kind) ty words s)
 wave_one structs c kind ty from words s basic basic' same h =
     let one = fit_one structs from words h in
     subst (λ l. Yields (Fits structs ty) (worked c (wave kind) ty l s)) (sym one.1)
-        (wave_fits structs (kind (component_kind ty)) 0 ty one.0 s basic (basic_length structs from one.0 basic' one.2 ∙ same))
+    (wave_fits structs (kind (component_kind ty)) 0 ty one.0 s basic (basic_length structs from one.0 basic' one.2 ∙ same))
 
 bits_numeric : (kind : Kind) (x : Ty) → IsTrue (is_numeric (scalar_type kind)) → IsTrue (is_basic x) → IsTrue (is_numeric (with_kind kind x))
 bits_numeric kind void_type h basic = never basic
@@ -156,7 +148,6 @@ uint_numeric (vector_type UintKind size) h = refl
 uint_numeric (array_type element count) h = never h
 uint_numeric (struct_type number) h = never h
 
-
 -- what is done by a signature has the type that it gives
 work_fits : (structs : List StructDef) (c : Context) (signature : Signature) (work : Work) → Suits signature work → (types : List Ty) (ty : Ty) → HasSignature signature types ty → (words : List (List ℕ)) (s : State) →
     FitTypes structs types words → Yields (Fits structs ty) (worked c work ty words s)
@@ -167,14 +158,14 @@ work_fits structs c (Numbers (suc zero)) (wave kind) suits types ty h words s fi
 work_fits structs c (Numbers (suc (suc zero))) (from_two f) suits types ty h words s fits =
     let two = fit_two structs ty ty words (subst (λ t. FitTypes structs t words) h.0 fits) in
     subst (λ l. Yields (Fits structs ty) (worked c (from_two f) ty l s)) (sym two.2)
-        (numbers_fit structs ty (map_2 (f (component_kind ty)) two.0 two.1) h.1
-            (length-two (f (component_kind ty)) two.0 two.1 (component_count ty) (basic_length structs ty two.0 (basic_numeric ty h.1) two.3) (basic_length structs ty two.1 (basic_numeric ty h.1) two.4)))
+    (numbers_fit structs ty (map_2 (f (component_kind ty)) two.0 two.1) h.1
+    (length-map_2 (f (component_kind ty)) two.0 two.1 (component_count ty) (basic_length structs ty two.0 (basic_numeric ty h.1) two.3) (basic_length structs ty two.1 (basic_numeric ty h.1) two.4)))
 work_fits structs c (Numbers (suc (suc (suc zero)))) (from_three f) suits types ty h words s fits =
     let three = fit_three structs ty ty ty words (subst (λ t. FitTypes structs t words) h.0 fits) in
     subst (λ l. Yields (Fits structs ty) (worked c (from_three f) ty l s)) (sym three.3)
-        (numbers_fit structs ty (map_3 (f (component_kind ty)) three.0 three.1 three.2) h.1
-            (length-three (f (component_kind ty)) three.0 three.1 three.2 (component_count ty) (basic_length structs ty three.0 (basic_numeric ty h.1) three.4) (basic_length structs ty three.1 (basic_numeric ty h.1) three.5)
-                (basic_length structs ty three.2 (basic_numeric ty h.1) three.6)))
+    (numbers_fit structs ty (map_3 (f (component_kind ty)) three.0 three.1 three.2) h.1
+    (length-three (f (component_kind ty)) three.0 three.1 three.2 (component_count ty) (basic_length structs ty three.0 (basic_numeric ty h.1) three.4) (basic_length structs ty three.1 (basic_numeric ty h.1) three.5)
+    (basic_length structs ty three.2 (basic_numeric ty h.1) three.6)))
 work_fits structs c Uints (from_one f) suits types ty h words s fits =
     number_one structs c f ty ty words s (uint_numeric ty h.1) (basic_of_kind UintKind ty h.1) refl (subst (λ t. FitTypes structs t words) h.0 fits)
 work_fits structs c Uints (wave kind) suits types ty h words s fits =
@@ -183,23 +174,23 @@ work_fits structs c Truths (from_all judge) suits [] ty h words s fits = absurd 
 work_fits structs c Truths (from_all judge) suits (x ∷ []) ty h words s fits =
     let one = fit_one structs x words fits in
     subst (λ l. Yields (Fits structs ty) (worked c (from_all judge) ty l s)) (sym one.1)
-        (subst (λ t. Fits structs t (truth (judge one.0) ∷ [])) (sym h.1) (basic_fits structs bool_type (truth (judge one.0) ∷ []) refl refl (truth_fits (judge one.0), tt)))
+    (subst (λ t. Fits structs t (truth (judge one.0) ∷ [])) (sym h.1) (basic_fits structs bool_type (truth (judge one.0) ∷ []) refl refl (truth_fits (judge one.0), tt)))
 work_fits structs c Truths (from_all judge) suits (x ∷ y ∷ types) ty h words s fits = absurd h
 work_fits structs c (Bits IntKind) (from_one f) suits [] ty h words s fits = absurd h
 work_fits structs c (Bits IntKind) (from_one f) suits (x ∷ []) ty h words s fits =
     subst (λ t. Yields (Fits structs t) (worked c (from_one f) t words s)) (sym h.1)
-        (number_one structs c f (with_kind IntKind x) x words s (bits_numeric IntKind x refl (basic_numeric x h.0)) (basic_numeric x h.0) (sym (with_kind_count IntKind x (basic_numeric x h.0))) fits)
+    (number_one structs c f (with_kind IntKind x) x words s (bits_numeric IntKind x refl (basic_numeric x h.0)) (basic_numeric x h.0) (sym (with_kind_count IntKind x (basic_numeric x h.0))) fits)
 work_fits structs c (Bits IntKind) (from_one f) suits (x ∷ y ∷ types) ty h words s fits = absurd h
 work_fits structs c (Bits UintKind) (from_one f) suits [] ty h words s fits = absurd h
 work_fits structs c (Bits UintKind) (from_one f) suits (x ∷ []) ty h words s fits =
     subst (λ t. Yields (Fits structs t) (worked c (from_one f) t words s)) (sym h.1)
-        (number_one structs c f (with_kind UintKind x) x words s (bits_numeric UintKind x refl (basic_numeric x h.0)) (basic_numeric x h.0) (sym (with_kind_count UintKind x (basic_numeric x h.0))) fits)
+    (number_one structs c f (with_kind UintKind x) x words s (bits_numeric UintKind x refl (basic_numeric x h.0)) (basic_numeric x h.0) (sym (with_kind_count UintKind x (basic_numeric x h.0))) fits)
 work_fits structs c (Bits UintKind) (from_one f) suits (x ∷ y ∷ types) ty h words s fits = absurd h
 work_fits structs c Atomic own_form suits types ty h words s fits = absurd h
 work_fits structs c Barrier (barrier mode) suits types ty h words s fits =
     let none = fit_none structs words (subst (λ t. FitTypes structs t words) h.0 fits) in
     subst (λ l. Yields (Fits structs ty) (worked c (barrier mode) ty l s)) (sym none)
-        (yields_giving (λ r. Unit {0}) (Fits structs ty) (λ r. []) (λ r x. subst (λ t. Fits structs t []) (sym h.1) (nothing_fits structs)) (asks _ s) (yields_any (λ r. Unit {0}) (λ r. tt) (asks _ s)))
+    (yields_giving (λ r. Unit {0}) (Fits structs ty) (λ r. []) (λ r x. subst (λ t. Fits structs t []) (sym h.1) (nothing_fits structs)) (asks (BarrierEvent mode) s) (yields_any (λ r. Unit {0}) (λ r. tt) (asks (BarrierEvent mode) s)))
 work_fits structs c LaneTruth (wave_alone kind) suits types ty h words s fits =
     let none = fit_none structs words (subst (λ t. FitTypes structs t words) h.0 fits) in
     subst (λ t. Yields (Fits structs t) (worked c (wave_alone kind) t words s)) (sym h.1)
@@ -207,19 +198,20 @@ work_fits structs c LaneTruth (wave_alone kind) suits types ty h words s fits =
 work_fits structs c LaneNumber (of_lane tell) suits types ty h words s fits =
     let none = fit_none structs words (subst (λ t. FitTypes structs t words) h.0 fits) in
     subst (λ t. Yields (Fits structs t) (worked c (of_lane tell) t words s)) (sym h.1)
-    (subst (λ l. Yields (Fits structs uint_type) (worked c (of_lane tell) uint_type l s)) (sym none) (numbers_fit structs uint_type _ refl refl))
+    (subst (λ l. Yields (Fits structs uint_type) (worked c (of_lane tell) uint_type l s)) (sym none) (numbers_fit structs uint_type (wrapped (tell c.lane) ∷ []) refl refl))
 work_fits structs c Vote (wave kind) suits types ty h words s fits =
     subst (λ t. Yields (Fits structs t) (worked c (wave kind) t words s)) (sym h.1)
-        (wave_one structs c kind bool_type bool_type words s refl refl refl (subst (λ t. FitTypes structs t words) h.0 fits))
+    (wave_one structs c kind bool_type bool_type words s refl refl refl (subst (λ t. FitTypes structs t words) h.0 fits))
 work_fits structs c Ballot (wave_four kind) suits types ty h words s fits =
     let one = fit_one structs bool_type words (subst (λ t. FitTypes structs t words) h.0 fits) in
     subst (λ t. Yields (Fits structs t) (worked c (wave_four kind) t words s)) (sym h.1)
     (subst (λ l. Yields (Fits structs (vector_type UintKind 4)) (worked c (wave_four kind) (vector_type UintKind 4) l s)) (sym one.1)
-    (yields_giving (λ r. Unit {0}) (Fits structs (vector_type UintKind 4)) (reply_words 4) (λ r x. numbers_fit structs (vector_type UintKind 4) (reply_words 4 r) refl refl) (asks _ s) (yields_any (λ r. Unit {0}) (λ r. tt) (asks _ s))))
+    (yields_giving (λ r. Unit {0}) (Fits structs (vector_type UintKind 4)) (reply_words 4) (λ r x. numbers_fit structs (vector_type UintKind 4) (reply_words 4 r) refl refl) (asks (Wave kind (slice_index one.0 0) 0) s)
+    (yields_any (λ r. Unit {0}) (λ r. tt) (asks (Wave kind (slice_index one.0 0) 0) s))))
 work_fits structs c AllEqual (wave kind) suits [] ty h words s fits = absurd h
 work_fits structs c AllEqual (wave kind) suits (x ∷ []) ty h words s fits =
     subst (λ t. Yields (Fits structs t) (worked c (wave kind) t words s)) (sym h.1)
-        (wave_one structs c kind (with_kind BoolKind x) x words s (with_kind_basic BoolKind x h.0) h.0 (sym (with_kind_count BoolKind x h.0)) fits)
+    (wave_one structs c kind (with_kind BoolKind x) x words s (with_kind_basic BoolKind x h.0) h.0 (sym (with_kind_count BoolKind x h.0)) fits)
 work_fits structs c AllEqual (wave kind) suits (x ∷ y ∷ types) ty h words s fits = absurd h
 work_fits structs c ReadLaneAt (wave_at kind) suits types ty h words s fits =
     let two = fit_two structs ty uint_type words (subst (λ t. FitTypes structs t words) h.0 fits) in
@@ -230,7 +222,7 @@ work_fits structs c CountTruths (wave kind) suits [] ty h words s fits = absurd 
 work_fits structs c CountTruths (wave kind) suits (x ∷ []) ty h words s fits =
     let basic = basic_of_kind BoolKind x h.0 in
     subst (λ t. Yields (Fits structs t) (worked c (wave kind) t words s)) (sym h.1)
-        (wave_one structs c kind (with_kind UintKind x) x words s (with_kind_basic UintKind x basic) basic (sym (with_kind_count UintKind x basic)) fits)
+    (wave_one structs c kind (with_kind UintKind x) x words s (with_kind_basic UintKind x basic) basic (sym (with_kind_count UintKind x basic)) fits)
 work_fits structs c CountTruths (wave kind) suits (x ∷ y ∷ types) ty h words s fits = absurd h
 work_fits structs c signature work suits types ty h words s fits = absurd suits
 

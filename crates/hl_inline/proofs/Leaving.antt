@@ -1,12 +1,7 @@
 -- How control leaves the statements of a function: with a value of its result, and never at the end where it has one.
-use Rattle.std.proofs.Common.{◌≡◌, ◌∙◌, refl, sym, ap, subst, ℕ, zero, suc, ◌⊎◌, inl, inr, Bool, true, false, List, [], ◌∷◌, Option, None, Some, slice_get, arith}
-use Rattle.std.specs.Prelude.{◌&&◌, ◌||◌, if◌then◌else◌, IsTrue, option_map, slice_index_or}
-use Rattle.std.proofs.lemmas.Bool.{and_cases, or_parts, true≢false}
-use Rattle.std.proofs.lemmas.Option.{same_Some}
-use Rattle.lane_core.specs.Lane.{Exchange}
-use Rattle.hl_meaning.specs.Types.{Ty, is_void, void_type}
+use Rattle.std.proofs.Common.{◌≡◌, ◌∙◌, refl, sym, ap, subst, ℕ, zero, suc, Bool, true, false, [], Option, None, Some}
+use Rattle.std.specs.Prelude.{◌&&◌, ◌||◌, if◌then◌else◌, IsTrue}
 use Rattle.hl_meaning.specs.Trees.{Expr, MaybeStmt, Stmt, Stmts, block_stmt, break_stmt, continue_stmt, do_stmt, for_stmt, if_stmt, local_stmt, more_stmts, no_stmt, no_stmts, return_stmt, run_stmt, some_stmt, type_of, while_stmt}
-use Rattle.hl_meaning.specs.Places.{Scope}
 use Rattle.hl_meaning.specs.WellFormed.{AreStmts, IsExpr, IsStmt, IsStmtIf, always_returns, one_returns, returns_if}
 use Rattle.hl_source.specs.State.{Context, Progress, State, after, goes_with, ends_at, with_variable}
 use Rattle.hl_source.specs.Statements.{Doing, Leaving, at_end, by_break, by_continue, by_return, choice, computes, computes_if, condition, condition_if, declares, does, does_all, does_if, leaves, returns, tested_turn, testing_turn, then_loop, then_next, then_turn, turns}
@@ -76,6 +71,7 @@ module _ (c : Context) (n : ℕ) (sound : (e : Expr) → IsExpr c.scope e → Ha
       and_false : (a : Bool) → (a && false) ≡ false
       and_false true = refl
       and_false false = refl
+
       by_leaving : (leaving : Leaving) → LeavesAs in_loop second leaving → LeavesAs in_loop (first && second) leaving
       by_leaving at_end l = ap (λ b. first && b) l ∙ and_false first
       by_leaving by_break l = l
@@ -133,10 +129,10 @@ module _ (c : Context) (n : ℕ) (sound : (e : Expr) → IsExpr c.scope e → Ha
     does_leaves (if_stmt cond consequent alternative) in_loop h s =
         yields_after (λ b. Unit {0}) (LeavesAs in_loop (always_returns consequent && returns_if alternative)) (condition c cond s) _ (yields_any (λ b. Unit {0}) (λ b. tt) (condition c cond s)) (λ b s1 x.
         choice_leaves in_loop (always_returns consequent) (returns_if alternative) b (λ s'. does c n consequent s') (λ s'. does_if c n alternative s')
-            (λ s'. does_leaves consequent in_loop h.1 s') (λ s'. if_leaves alternative in_loop h.2 s') s1)
+        (λ s'. does_leaves consequent in_loop h.1 s') (λ s'. if_leaves alternative in_loop h.2 s') s1)
     does_leaves (for_stmt init cond step body) in_loop h s =
         loop_behind in_loop (one_returns init) (does_all c n init s) _ (all_leaves init in_loop h.0 s)
-            (turns_leaves in_loop n (tested_turn c cond (λ s'. does c n body s') step) (tested_leaves (always_returns body) cond (λ s'. does c n body s') step (λ s'. does_leaves body true h.3 s')))
+        (turns_leaves in_loop n (tested_turn c cond (λ s'. does c n body s') step) (tested_leaves (always_returns body) cond (λ s'. does c n body s') step (λ s'. does_leaves body true h.3 s')))
     does_leaves (while_stmt cond body) in_loop h s =
         turns_leaves in_loop n (tested_turn c (Some cond) (λ s'. does c n body s') None) (tested_leaves (always_returns body) (Some cond) (λ s'. does c n body s') None (λ s'. does_leaves body true h.1 s')) s
     does_leaves (do_stmt body cond) in_loop h s =

@@ -1,33 +1,28 @@
 -- What operators, conversions and intrinsic functions give has the words of its type.
-use Rattle.std.proofs.Common.{◌≡◌, ◌∙◌, refl, sym, ap, subst, ℕ, zero, suc, ◌+◌, ◌*◌, ◌<◌, ◌≤◌, ◌⊎◌, inl, inr, Bool, true, false, List, [], ◌∷◌, ◌++◌, map, length, Option, None, Some, Result, Ok, Err, slice_get, unwrap_or, arith}
+use Rattle.std.proofs.Common.{◌≡◌, ◌∙◌, refl, sym, ap, subst, ℕ, zero, suc, ◌+◌, ◌≤◌, ◌⊎◌, inl, inr, Bool, true, false, List, [], ◌∷◌, ◌++◌, map, length, None, Some, Result, Ok, Err, arith}
 use Rattle.std.proofs.lemmas.List.Sums.{sum_by-cons}
-use Rattle.std.specs.Prelude.{is_some, ◌==◌, ◌&&◌, ◌||◌, not, if◌then◌else◌, IsTrue, min, nat_lt, replicate, slice_index, sum_by, take}
-use Rattle.std.specs.List.{concat, list_all, list_any, range_with_len}
-use Rattle.std.proofs.lemmas.List.{append-nil, length-append, length-map, length-replicate, length-take}
-use Rattle.std.proofs.lemmas.Bool.{cases_Bool, eqb-true, ltb-true, or_cases, true≢false}
+use Rattle.std.specs.Prelude.{is_some, ◌==◌, ◌&&◌, ◌||◌, not, if◌then◌else◌, IsTrue, min, nat_lt, replicate, slice_index, sum_by}
+use Rattle.std.specs.List.{concat, list_all}
+use Rattle.std.proofs.lemmas.List.{length-map, length-replicate, length-take}
+use Rattle.std.proofs.lemmas.Bool.{eqb-true, ltb-true}
 use Rattle.std.proofs.lemmas.Option.{none-some, same_Some}
 use Rattle.lane_core.specs.declared.event.LaneFault.{LaneFault}
-use Rattle.lane_core.specs.declared.event.WaveKind.{WaveKind}
 use Rattle.hl_meaning.specs.declared.ty.Kind.{Kind}
 use Rattle.hl_meaning.specs.declared.ty.Kind.TheVariants.{Bool as BoolKind, Int as IntKind, Uint as UintKind}
-use Rattle.hl_meaning.specs.declared.intrinsic.Signature.{Signature}
-use Rattle.hl_meaning.specs.declared.intrinsic.Signature.TheVariants.{Numbers, Uints, Truths, Bits, Atomic, Barrier, LaneTruth, LaneNumber, Vote, Ballot, AllEqual, ReadLaneAt, ReadLaneFirst, CountTruths}
-use Rattle.hl_meaning.specs.Types.{Ty, array_type, bool_type, component_count, is_alike, is_basic, is_numeric, is_of, kind_eq, scalar_type, struct_type, ty_eq, uint_type, vector_type, void_type, with_kind}
-use Rattle.hl_meaning.specs.Conversions.{conversion_cost, converts, kind_cost}
+use Rattle.hl_meaning.specs.Types.{Ty, array_type, component_count, is_alike, is_basic, is_numeric, is_of, kind_eq, scalar_type, struct_type, vector_type, void_type, with_kind}
+use Rattle.hl_meaning.specs.Conversions.{converts, kind_cost}
 use Rattle.hl_meaning.specs.Operators.{binary_type, comparing, computing, is_among, joining, negating, signing, unary_type}
-use Rattle.hl_meaning.specs.Intrinsics.{HasSignature, HasSignatureOf, Intrinsic, intrinsics, signature_of}
 use Rattle.hl_meaning.specs.Programs.{StructDef}
 use Rattle.hl_meaning.specs.Layout.{kinds_of}
 use Rattle.hl_meaning.specs.WellFormed.{Builds}
 use Rattle.lane_core.specs.Words.{holds, truth}
 use Rattle.hl_source.specs.Operations.{all_ok, binary_word, binary_words, chosen_word, component_kind, converted, map_2, map_3, resized, unary_word, word_as}
-use Rattle.hl_source.specs.State.{Context, Progress, State, after, asks, asks_word, each, ends_at, first_then, gives, goes_with, no_value}
-use Rattle.hl_source.specs.Intrinsics.{Work, barrier, from_all, from_one, from_three, from_two, of_lane, own_form, wave, wave_alone, wave_at, wave_four, wave_word, wave_words, work_of, worked, works}
+use Rattle.hl_source.specs.State.{Progress, State, after, ends_at, gives, goes_with}
 use Rattle.hl_inline.proofs.Induction.{Every}
 use Rattle.hl_inline.proofs.ProgressLemmas.{giving}
 use Rattle.hl_inline.proofs.FittingWords.{Fits, HasKinds, kinds_length, word_as_twice}
 use Rattle.hl_inline.proofs.Performing.{Yields}
-use Rattle.hl_inline.proofs.KindParts.{kinds-scalar, kinds-vector, kinds-void}
+use Rattle.hl_inline.proofs.KindParts.{kinds-scalar, kinds-vector}
 use Rattle.hl_inline.proofs.Typed.{and_left, and_right, never}
 
 -- parts of runs
@@ -94,9 +89,6 @@ each_of_kind kind (suc count) (w ∷ ws) h = (h.0, each_of_kind kind count ws h.
 pub basic_fits : (structs : List StructDef) (ty : Ty) (ws : List ℕ) → IsTrue (is_basic ty) → length ws ≡ component_count ty → Every (λ w. word_as (component_kind ty) w ≡ w) ws → Fits structs ty ws
 basic_fits structs ty ws basic e h = subst (λ k. HasKinds k ws) (sym (basic_kinds structs ty basic)) (one_kind (component_kind ty) (component_count ty) ws e h)
 
-pub basic_each : (structs : List StructDef) (ty : Ty) (ws : List ℕ) → IsTrue (is_basic ty) → Fits structs ty ws → Every (λ w. word_as (component_kind ty) w ≡ w) ws
-basic_each structs ty ws basic fits = each_of_kind (component_kind ty) (component_count ty) ws (subst (λ k. HasKinds k ws) (basic_kinds structs ty basic) fits)
-
 -- a word of a number is read as it is
 number_word : (ty : Ty) → IsTrue (is_numeric ty) → (w : ℕ) → word_as (component_kind ty) w ≡ w
 number_word void_type h w = never h
@@ -155,6 +147,7 @@ unary_of op from to h = by_tests (is_among signing op && is_numeric from) refl (
   where
     holds_true : (b : Bool) → b ≡ true → IsTrue b
     holds_true b e = e
+
     by_tests : (a : Bool) → (is_among signing op && is_numeric from) ≡ a → (b : Bool) → (is_among negating op && is_of BoolKind from) ≡ b → (if a then Some from else (if b then Some from else None)) ≡ Some to →
         (from ≡ to) × (IsTrue (is_numeric from) ⊎ (IsTrue (is_among negating op) × IsTrue (is_of BoolKind from)))
     by_tests true is b is' h = (same_Some from to h, inl (and_right (is_among signing op) (is_numeric from) (holds_true _ is)))
@@ -199,7 +192,7 @@ unary_fits structs op from to ws h fits = by_kind (unary_of op from to h)
         subst (λ t. Fits structs t (map (unary_word op) ws)) same
         (subst (λ o. Fits structs from (map (unary_word o) ws)) (sym (negating_is op negates))
         (basic_fits structs from (map (unary_word 19) ws) (basic_of_kind BoolKind from bool) (length-map ws (unary_word 19) ∙ basic_length structs from ws (basic_of_kind BoolKind from bool) fits)
-            (subst (λ k. Every (λ w. word_as k w ≡ w) (map (unary_word 19) ws)) (sym (bool_kind from bool)) (negated_fits ws))))
+        (subst (λ k. Every (λ w. word_as k w ≡ w) (map (unary_word 19) ws)) (sym (bool_kind from bool)) (negated_fits ws))))
 
 -- what is computed, where there is no fault
 abbrev pub OkHolds : {A : Type 0} → (A → Type 0) → Result A LaneFault → Type 0
@@ -221,7 +214,7 @@ all_ok_holds P (Ok w ∷ rs) h = by_rest (all_ok rs) refl (all_ok_holds P rs h.1
     by_rest (Ok ws) is x = subst (OkHolds (λ ws. Every P ws × (length ws ≡ suc (length rs)))) (sym (all_ok_next w rs ws is)) ((h.0, x.0), ap suc x.1)
     by_rest (Err fault) is x = subst (OkHolds (λ ws. Every P ws × (length ws ≡ suc (length rs)))) (sym (all_ok_fault w rs fault is)) tt
 
-length-map_2 : {A : Type 0} (f : ℕ → ℕ → A) (xs ys : List ℕ) (n : ℕ) → length xs ≡ n → length ys ≡ n → length (map_2 f xs ys) ≡ n
+pub length-map_2 : {A : Type 0} (f : ℕ → ℕ → A) (xs ys : List ℕ) (n : ℕ) → length xs ≡ n → length ys ≡ n → length (map_2 f xs ys) ≡ n
 length-map_2 f [] [] n e e' = e
 length-map_2 f [] (y ∷ ys) n e e' = absurd (omega (arith, e, e'))
 length-map_2 f (x ∷ xs) [] n e e' = absurd (omega (arith, e, e'))
@@ -275,6 +268,7 @@ binary_of op from to h = by_tests (is_among computing op && is_numeric from) ref
   where
     holds_true : (b : Bool) → b ≡ true → IsTrue b
     holds_true b e = e
+
     bool_with : (ty : Ty) → IsTrue (is_of BoolKind ty) → with_kind BoolKind ty ≡ ty
     bool_with void_type h = refl
     bool_with (scalar_type BoolKind) h = refl
@@ -285,16 +279,21 @@ binary_of op from to h = by_tests (is_among computing op && is_numeric from) ref
     bool_with (vector_type UintKind size) h = never h
     bool_with (array_type element count) h = refl
     bool_with (struct_type number) h = refl
+
     by_tests : (a : Bool) → (is_among computing op && is_numeric from) ≡ a → (b : Bool) → (is_among comparing op && is_numeric from) ≡ b → (d : Bool) → (is_among joining op && is_of BoolKind from) ≡ d →
         (if a then Some from else (if b then Some (with_kind BoolKind from) else (if d then Some from else None))) ≡ Some to →
         ((from ≡ to) × IsTrue (is_numeric from)) ⊎ ((GivesTruths op × IsTrue (is_basic from)) × (with_kind BoolKind from ≡ to))
     by_tests true is b is' d is'' h = inl (same_Some from to h, and_right (is_among computing op) (is_numeric from) (holds_true _ is))
     by_tests false is true is' d is'' h =
-        inr ((among_all GivesTruths op comparing comparing_truths (and_left (is_among comparing op) (is_numeric from) (holds_true _ is')), basic_numeric from (and_right (is_among comparing op) (is_numeric from) (holds_true _ is'))),
-        same_Some (with_kind BoolKind from) to h)
+        inr (
+          (among_all GivesTruths op comparing comparing_truths (and_left (is_among comparing op) (is_numeric from) (holds_true _ is')), basic_numeric from (and_right (is_among comparing op) (is_numeric from) (holds_true _ is'))),
+          same_Some (with_kind BoolKind from) to h,
+        )
     by_tests false is false is' true is'' h =
-        inr ((among_all GivesTruths op joining joining_truths (and_left (is_among joining op) (is_of BoolKind from) (holds_true _ is'')), basic_of_kind BoolKind from (and_right (is_among joining op) (is_of BoolKind from) (holds_true _ is''))),
-        bool_with from (and_right (is_among joining op) (is_of BoolKind from) (holds_true _ is'')) ∙ same_Some from to h)
+        inr (
+          (among_all GivesTruths op joining joining_truths (and_left (is_among joining op) (is_of BoolKind from) (holds_true _ is'')), basic_of_kind BoolKind from (and_right (is_among joining op) (is_of BoolKind from) (holds_true _ is''))),
+          bool_with from (and_right (is_among joining op) (is_of BoolKind from) (holds_true _ is'')) ∙ same_Some from to h,
+        )
     by_tests false is false is' false is'' h = absurd (none-some to h)
 
 -- another kind of the same size
@@ -335,13 +334,13 @@ binary_fits structs op from to left right h fits others = by_kind (binary_of op 
     by_kind (inl (same, numeric)) =
         let long = length-map_2 (binary_word op (component_kind from)) left right (component_count from) (basic_length structs from left (basic_numeric from numeric) fits) (basic_length structs from right (basic_numeric from numeric) others) in
         ok_map (λ ws. Every (λ w. Unit {0}) ws × (length ws ≡ length (map_2 (binary_word op (component_kind from)) left right))) (Fits structs to)
-            (λ ws x. subst (λ t. Fits structs t ws) same (numbers_fit structs from ws numeric (x.1 ∙ long))) (binary_words op (component_kind from) left right)
-            (all_ok_holds (λ w. Unit {0}) (map_2 (binary_word op (component_kind from)) left right) (every_computed (λ w. Unit {0}) (binary_word op (component_kind from)) (λ a b. any_result (binary_word op (component_kind from) a b) (λ w. Unit {0}) (λ w. tt)) left right))
+        (λ ws x. subst (λ t. Fits structs t ws) same (numbers_fit structs from ws numeric (x.1 ∙ long))) (binary_words op (component_kind from) left right)
+        (all_ok_holds (λ w. Unit {0}) (map_2 (binary_word op (component_kind from)) left right) (every_computed (λ w. Unit {0}) (binary_word op (component_kind from)) (λ a b. any_result (binary_word op (component_kind from) a b) (λ w. Unit {0}) (λ w. tt)) left right))
     by_kind (inr (truths, same)) =
         let long = length-map_2 (binary_word op (component_kind from)) left right (component_count from) (basic_length structs from left truths.1 fits) (basic_length structs from right truths.1 others) in
         ok_map (λ ws. Every (λ w. word_as BoolKind w ≡ w) ws × (length ws ≡ length (map_2 (binary_word op (component_kind from)) left right))) (Fits structs to)
-            (λ ws x. subst (λ t. Fits structs t ws) same (truths_fit structs from ws truths.1 (x.1 ∙ long) x.0)) (binary_words op (component_kind from) left right)
-            (all_ok_holds (λ w. word_as BoolKind w ≡ w) (map_2 (binary_word op (component_kind from)) left right) (every_computed (λ w. word_as BoolKind w ≡ w) (binary_word op (component_kind from)) (truths.0 (component_kind from)) left right))
+        (λ ws x. subst (λ t. Fits structs t ws) same (truths_fit structs from ws truths.1 (x.1 ∙ long) x.0)) (binary_words op (component_kind from) left right)
+        (all_ok_holds (λ w. word_as BoolKind w ≡ w) (map_2 (binary_word op (component_kind from)) left right) (every_computed (λ w. word_as BoolKind w ≡ w) (binary_word op (component_kind from)) (truths.0 (component_kind from)) left right))
 
 -- `?:`
 chosen_kinds : (kinds : List Kind) (truths ws others : List ℕ) → length truths ≡ length kinds → HasKinds kinds ws → HasKinds kinds others → HasKinds kinds (map_3 chosen_word truths ws others)
@@ -362,8 +361,8 @@ pub chosen_fits : (structs : List StructDef) (ty : Ty) (truths ws others : List 
     Fits structs ty (map_3 chosen_word truths ws others)
 chosen_fits structs ty truths ws others basic fits fits' fits'' =
     chosen_kinds (kinds_of structs ty) truths ws others
-        (basic_length structs (with_kind BoolKind ty) truths (with_kind_basic BoolKind ty basic) fits ∙ (with_kind_count BoolKind ty basic ∙
-        sym (ap length (basic_kinds structs ty basic) ∙ length-replicate (component_count ty) (component_kind ty)))) fits' fits''
+    (basic_length structs (with_kind BoolKind ty) truths (with_kind_basic BoolKind ty basic) fits ∙ (with_kind_count BoolKind ty basic ∙
+    sym (ap length (basic_kinds structs ty basic) ∙ length-replicate (component_count ty) (component_kind ty)))) fits' fits''
 
 -- values of types, in order
 abbrev pub FitTypes : List StructDef → List Ty → List (List ℕ) → Type 0
@@ -429,8 +428,8 @@ built_kinds structs ty (t ∷ types) (ws ∷ words) basic alike h =
     let same = alike_kind ty t basic (and_left (is_alike ty t) (list_all (is_alike ty) types) alike) in
     let first = subst (λ k. HasKinds k ws) (basic_kinds structs t same.0 ∙ ap (replicate (component_count t)) same.1) h.0 in
     subst (λ k. HasKinds k (ws ++ concat words)) (replicate_add (component_count t) (sum_by component_count types) (component_kind ty) ∙ ap (λ n. replicate n (component_kind ty)) (sym (sum_by-cons component_count t types)))
-        (kinds_append (replicate (component_count t) (component_kind ty)) (replicate (sum_by component_count types) (component_kind ty)) ws (concat words) first
-            (built_kinds structs ty types words basic (and_right (is_alike ty t) (list_all (is_alike ty) types) alike) h.1))
+    (kinds_append (replicate (component_count t) (component_kind ty)) (replicate (sum_by component_count types) (component_kind ty)) ws (concat words) first
+    (built_kinds structs ty types words basic (and_right (is_alike ty t) (list_all (is_alike ty) types) alike) h.1))
 
 scalars_kinds : (structs : List StructDef) (kinds : List Kind) (words : List (List ℕ)) → FitTypes structs (map scalar_type kinds) words → HasKinds kinds (concat words)
 scalars_kinds structs [] [] h = tt

@@ -1,18 +1,19 @@
 -- The value of an expression has the words of its type.
-use Rattle.std.proofs.Common.{◌≡◌, ◌∙◌, refl, sym, ap, subst, ℕ, zero, suc, ◌+◌, ◌*◌, ◌<◌, ◌≤◌, ◌⊎◌, inl, inr, Bool, true, false, List, [], ◌∷◌, ◌++◌, map, length, Option, None, Some, Result, Ok, Err, slice_get, unwrap_or, get_or, arith}
-use Rattle.std.specs.Prelude.{is_some, ◌==◌, ◌&&◌, not, if◌then◌else◌, IsTrue, drop, nat_lt, option_and_then, replicate, slice_index, slice_index_or, take}
+use Rattle.std.proofs.Common.{◌≡◌, ◌∙◌, refl, sym, ap, subst, ℕ, zero, suc, ◌+◌, ◌*◌, ◌<◌, ◌≤◌, ◌⊎◌, inl, inr, Bool, true, false, List, [], ◌∷◌, ◌++◌, map, length, Option, None, Some, slice_get, unwrap_or, get_or, arith}
+use Rattle.std.specs.Prelude.{is_some, ◌==◌, not, if◌then◌else◌, IsTrue, drop, nat_lt, option_and_then, replicate, slice_index, slice_index_or, take}
 use Rattle.std.specs.Int.{div_ceil}
-use Rattle.std.specs.List.{concat, list_all, range_with_len}
-use Rattle.std.proofs.lemmas.List.{append-nil, length-append, length-map, length-replicate, length-take}
+use Rattle.std.specs.List.{concat, list_all}
+use Rattle.std.proofs.lemmas.List.{length-append, length-map, length-replicate, length-take}
 use Rattle.std.proofs.lemmas.List.FromFn.{length-map-range_with_len}
-use Rattle.std.proofs.lemmas.Bool.{cases_Bool, eqb-true, ltb-true, true≢false}
+use Rattle.std.proofs.lemmas.Bool.{eqb-true, ltb-true, true≢false}
 use Rattle.std.proofs.lemmas.Option.{none-some, same_Some}
-use Rattle.std.proofs.Math.Seq.{drop-append_seam, take-append_seam}
 use Rattle.lane_core.specs.Lane.{Exchange}
 use Rattle.lane_core.specs.declared.event.AtomicKind.{AtomicKind}
+use Rattle.lane_core.specs.declared.event.Event.TheVariants.{BufferLoad, BufferStore, SharedLoad}
+use Rattle.lane_core.specs.declared.event.Slot.{Slot}
 use Rattle.hl_meaning.specs.declared.ty.Kind.{Kind}
 use Rattle.hl_meaning.specs.declared.ty.Kind.TheVariants.{Bool as BoolKind, Int as IntKind, Uint as UintKind}
-use Rattle.hl_meaning.specs.Types.{Ty, array_type, component_count, components_type, is_basic, is_numeric, is_void, scalar_type, struct_type, ty_eq, uint_type, vector_type, void_type}
+use Rattle.hl_meaning.specs.Types.{Ty, array_type, components_type, is_basic, is_numeric, is_void, scalar_type, struct_type, ty_eq, vector_type, void_type}
 use Rattle.hl_meaning.specs.Conversions.{converts}
 use Rattle.hl_meaning.specs.Operators.{binary_type, computing, is_among}
 use Rattle.hl_meaning.specs.Trees.{Args, Expr, Exprs, Form, Location, MaybeExpr, MaybeLocation, PathParts, Target, a_location, an_expr, atomic_form, binary_form, build_form, call_form, choose_form, convert_form, intrinsic_form, literal_form, method_form, more_exprs, no_expr, no_exprs, pick_form, place_type, read_form, some_expr, type_of, types_of, unary_form, write_form}
@@ -22,25 +23,24 @@ use Rattle.hl_meaning.specs.Places.{Scope, has_literal_indexes, path_type, root_
 use Rattle.hl_meaning.specs.WellFormed.{Assigns, IsDeclared, IsExpr, IsForm, IsLiteralOf, IsMethod, IsPlace, IsResult, IsType, callee_params, callee_result, most_words}
 use Rattle.hl_meaning.proofs.LayoutForms.{length-kinds_of}
 use Rattle.hl_meaning.proofs.LayoutLemmas.{words-void}
-use Rattle.lane_core.specs.Words.{holds, truth}
-use Rattle.hl_source.specs.Operations.{binary_words, component_kind, converted, map_2, picked, resized, word_as}
-use Rattle.hl_source.specs.State.{Callee, Context, Progress, State, after, asks, each, ends_at, first_then, gives, goes_with, no_value, reply_words}
-use Rattle.hl_source.specs.Offsets.{Holder, Reached, in_constant, in_element, in_shared, in_variable, indexes_of_steps, literal_indexes, picked_at, picked_words, place_of, reached, start_of, type_of_root}
-use Rattle.hl_source.specs.Memory.{load_four, pieces, read_place, read_words, store_four, word_offsets, write_place}
-use Rattle.hl_source.specs.Intrinsics.{work_of, worked}
-use Rattle.hl_source.specs.Expressions.{acts, arguments, assigned, assigns, calls, copies_out, evaluates, no_callee, operands, parameters_of, read_if, starts, write_if}
-use Rattle.hl_inline.specs.Operands.{expr_if_list, exprs_list, operand_exprs, place_exprs, target_exprs}
+use Rattle.lane_core.specs.Words.{wrapping_add}
+use Rattle.hl_source.specs.Operations.{binary_words, component_kind, converted, map_2, picked, word_as}
+use Rattle.hl_source.specs.State.{Context, Progress, State, after, asks, asks_word, each, gives, no_value, reply_words, variable_words}
+use Rattle.hl_source.specs.Offsets.{Holder, Reached, in_constant, in_element, in_shared, in_variable, indexes_of_steps, literal_indexes, picked_words, place_of, reached, slot_of, start_of, type_of_root}
+use Rattle.hl_source.specs.Memory.{byte_offset, cell, constant_words, load_four, pieces, read_place, read_words, shared_size, within, word_of, word_offsets, write_place}
+use Rattle.hl_source.specs.Expressions.{acts, arguments, assigned, atomic_original, assigns, copies_out, evaluates, no_callee, parameters_of, read_if, starts, write_if}
+use Rattle.hl_inline.specs.Operands.{expr_if_list, exprs_list, operand_exprs, place_exprs}
 use Rattle.hl_inline.proofs.Induction.{Every, Step, by_operands, every_back}
-use Rattle.hl_inline.proofs.ProgressLemmas.{after_giving, giving}
+use Rattle.hl_inline.proofs.ProgressLemmas.{after_giving}
 use Rattle.hl_inline.proofs.OperandLemmas.{evaluate_all, grouped, is_call_form, operands_all}
 use Rattle.hl_inline.proofs.FittingWords.{Fits, HasKinds, fits_length, kinds_read}
 use Rattle.hl_inline.proofs.Performing.{Yields}
 use Rattle.hl_inline.proofs.Emission.{HasValue}
 use Rattle.hl_inline.proofs.Passing.{HasPlaceValue}
-use Rattle.hl_inline.proofs.Typed.{IsValue, ParamsSome, and_left, and_right, form_values, never, some_declared}
-use Rattle.hl_inline.proofs.KindParts.{AreStructs, PartOf, kinds-scalar, kinds-vector, kinds-void, part_whole}
-use Rattle.hl_inline.proofs.ReachedTypes.{LettersAt, ReachedAs, pick_part, reached_as, true_of}
-use Rattle.hl_inline.proofs.ValueFits.{FitTypes, HasComponents, OkHolds, basic_fits, basic_length, basic_numeric, binary_fits, built_fits, chosen_fits, converted_fits, each_of_kind, gives_yields, numbers_fit, one_kind, resized_count, unary_fits, yields_after, yields_any, yields_giving, yields_map}
+use Rattle.hl_inline.proofs.Typed.{IsValue, ParamsSome, and_left, and_right, form_values, never}
+use Rattle.hl_inline.proofs.KindParts.{AreStructs, PartOf, kinds-scalar, kinds-vector, part_whole}
+use Rattle.hl_inline.proofs.ReachedTypes.{ReachedAs, pick_part, reached_as}
+use Rattle.hl_inline.proofs.ValueFits.{FitTypes, HasComponents, basic_fits, basic_length, basic_numeric, binary_fits, built_fits, chosen_fits, converted_fits, each_of_kind, gives_yields, one_kind, resized_count, unary_fits, yields_after, yields_any, yields_giving, yields_map}
 use Rattle.hl_inline.proofs.IntrinsicFits.{intrinsic_fits, nothing_fits}
 
 -- places
@@ -64,15 +64,23 @@ concat_long n (ws ∷ words) h = length-append ws (concat words) ∙ (ap (λ k. 
 enough_pieces : (count : ℕ) → count ≤ div_ceil count 4 * 4
 enough_pieces count = omega arith
 
+offsets_long : (part : ℕ → State → Progress ℕ) (offset count : ℕ) (s : State) → Yields (λ ws. length ws ≡ count) (each part (word_offsets offset count) s)
+offsets_long part offset count s =
+    subst (λ n. Yields (λ ws. length ws ≡ n) (each part (word_offsets offset count) s)) (length-map-range_with_len (wrapping_add offset) 0 count) (each_long part (word_offsets offset count) s)
+
+four_long : (slot : Slot) (index at : ℕ) (s : State) → Yields (λ ws. length ws ≡ 4) (load_four slot index at s)
+four_long slot index at s =
+    yields_giving (λ r. Unit {0}) (λ ws. length ws ≡ 4) (reply_words 4) (λ r h. refl) (asks (BufferLoad slot index at) s) (yields_any (λ r. Unit {0}) (λ r. tt) (asks (BufferLoad slot index at) s))
+
 pub read_long : (c : Context) (holder : Holder) (offset count : ℕ) (s : State) → Yields (λ ws. length ws ≡ count) (read_words c holder offset count s)
-read_long c (in_variable number) offset count s = yields_map _ _ (λ ws e. e ∙ length-map-range_with_len _ 0 count) _ (each_long _ (word_offsets offset count) s)
-read_long c (in_constant number) offset count s = yields_map _ _ (λ ws e. e ∙ length-map-range_with_len _ 0 count) _ (each_long _ (word_offsets offset count) s)
-read_long c (in_shared number) offset count s = yields_map _ _ (λ ws e. e ∙ length-map-range_with_len _ 0 count) _ (each_long _ (word_offsets offset count) s)
+read_long c (in_variable number) offset count s = offsets_long (word_of (variable_words s number)) offset count s
+read_long c (in_constant number) offset count s = offsets_long (word_of (constant_words c number)) offset count s
+read_long c (in_shared number) offset count s = offsets_long (λ at. within at (shared_size c number) (asks_word (SharedLoad (cell number at)))) offset count s
 read_long c (in_element slot index) offset count s =
     yields_giving (λ fours. (length fours ≡ length (pieces count)) × Every (λ ws. length ws ≡ 4) fours) (λ ws. length ws ≡ count) (λ fours. take count (concat fours))
-        (λ fours r. length-take count (concat fours) ∙ omega (arith, concat_long 4 fours r.1, r.0, length-map-range_with_len (λ piece. 4 * piece) 0 (div_ceil count 4), enough_pieces count))
-        (each _ (pieces count) s)
-        (each_holds (λ ws. length ws ≡ 4) _ (λ piece s1. yields_giving (λ r. Unit {0}) (λ ws. length ws ≡ 4) (reply_words 4) (λ r h. refl) (asks _ s1) (yields_any (λ r. Unit {0}) (λ r. tt) (asks _ s1))) (pieces count) s)
+    (λ fours r. length-take count (concat fours) ∙ omega (arith, concat_long 4 fours r.1, r.0, length-map-range_with_len (λ piece. 4 * piece) 0 (div_ceil count 4), enough_pieces count))
+    (each (λ piece. load_four slot index (byte_offset offset piece)) (pieces count) s)
+    (each_holds (λ ws. length ws ≡ 4) (λ piece. load_four slot index (byte_offset offset piece)) (λ piece s1. four_long slot index (byte_offset offset piece) s1) (pieces count) s)
 
 -- picked letters
 
@@ -101,15 +109,17 @@ picked_fits structs at to ws (inr l) fits = by_letters at.letters refl l.longer
   where
     of_kind : HasKinds (replicate l.size l.kind) ws
     of_kind = subst (λ k. HasKinds k ws) l.kinds fits
+
     long : length ws ≡ l.size
     long = fits_length structs at.ty ws fits ∙ (sym (length-kinds_of structs at.ty) ∙ (ap length l.kinds ∙ length-replicate l.size l.kind))
+
     by_letters : (letters : List ℕ) → at.letters ≡ letters → 1 < length letters → Fits structs to (picked letters ws)
     by_letters [] is longer = absurd (omega (arith, longer))
     by_letters (letter ∷ letters) is longer =
         subst (λ k. HasKinds k (map (slice_index ws) (letter ∷ letters)))
-            (sym (components_kinds structs l.kind (length (letter ∷ letters))) ∙ (ap (λ n. kinds_of structs (components_type l.kind (length n))) (sym is) ∙ ap (kinds_of structs) (sym l.is)))
-            (one_kind l.kind (length (letter ∷ letters)) (map (slice_index ws) (letter ∷ letters)) (length-map (letter ∷ letters) (slice_index ws))
-                (letters_fit l.kind l.size ws (letter ∷ letters) long (each_of_kind l.kind l.size ws of_kind) (subst (λ n. IsTrue (list_all (λ letter. nat_lt letter l.size) n)) is l.low)))
+        (sym (components_kinds structs l.kind (length (letter ∷ letters))) ∙ (ap (λ n. kinds_of structs (components_type l.kind (length n))) (sym is) ∙ ap (kinds_of structs) (sym l.is)))
+        (one_kind l.kind (length (letter ∷ letters)) (map (slice_index ws) (letter ∷ letters)) (length-map (letter ∷ letters) (slice_index ws))
+        (letters_fit l.kind l.size ws (letter ∷ letters) long (each_of_kind l.kind l.size ws of_kind) (subst (λ n. IsTrue (list_all (λ letter. nat_lt letter l.size) n)) is l.low)))
 
 root_path : (s : Scope) (o : Option Ty) (parts : PathParts) (ty : Ty) → option_and_then (λ t. path_type s.structs t parts) o ≡ Some ty → path_type s.structs (unwrap_or o void_type) parts ≡ Some ty
 root_path s None parts ty h = absurd (none-some ty h)
@@ -119,11 +129,11 @@ pub place_fits : (c : Context) (place : Location) → IsPlace c.scope place → 
 place_fits c (a_location ty root parts) h ixs s =
     let at = (place_of c (a_location ty root parts) ixs).at in
     yields_giving (λ ws. length ws ≡ words_of c.scope.structs at.ty) (Fits c.scope.structs ty) (λ ws. picked at.letters (map_2 word_as (kinds_of c.scope.structs at.ty) ws))
-        (λ ws e. picked_fits c.scope.structs at ty (map_2 word_as (kinds_of c.scope.structs at.ty) ws)
-            (reached_as c.scope.structs (start_of (type_of_root c root)) parts (indexes_of_steps root ixs) (type_of_root c root) ty refl refl (root_path c.scope (root_type c.scope root) parts ty h.3))
-            (kinds_read (kinds_of c.scope.structs at.ty) ws (e ∙ sym (length-kinds_of c.scope.structs at.ty))))
-        (read_words c (place_of c (a_location ty root parts) ixs).holder at.offset (words_of c.scope.structs at.ty) s)
-        (read_long c (place_of c (a_location ty root parts) ixs).holder at.offset (words_of c.scope.structs at.ty) s)
+    (λ ws e. picked_fits c.scope.structs at ty (map_2 word_as (kinds_of c.scope.structs at.ty) ws)
+    (reached_as c.scope.structs (start_of (type_of_root c root)) parts (indexes_of_steps root ixs) (type_of_root c root) ty refl refl (root_path c.scope (root_type c.scope root) parts ty h.3))
+    (kinds_read (kinds_of c.scope.structs at.ty) ws (e ∙ sym (length-kinds_of c.scope.structs at.ty))))
+    (read_words c (place_of c (a_location ty root parts) ixs).holder at.offset (words_of c.scope.structs at.ty) s)
+    (read_long c (place_of c (a_location ty root parts) ixs).holder at.offset (words_of c.scope.structs at.ty) s)
 
 pub place_value : (c : Context) (place : Location) → IsPlace c.scope place → HasPlaceValue c place
 place_value c (a_location ty root parts) h = record {
@@ -154,7 +164,7 @@ pub pick_fits : (structs : List StructDef) → AreStructs structs → (from : Ty
 pick_fits structs are from parts to ws small literal path fits =
     let at = reached structs (start_of from) parts (literal_indexes parts) in
     picked_fits structs at to (take (words_of structs at.ty) (drop at.offset ws)) (reached_as structs (start_of from) parts (literal_indexes parts) from to refl refl path)
-        (part_fits structs from at.ty at.offset ws (pick_part structs are from small (start_of from) parts from to refl refl path literal (part_whole structs from)) fits)
+    (part_fits structs from at.ty at.offset ws (pick_part structs are from small (start_of from) parts from to refl refl path literal (part_whole structs from)) fits)
 
 -- literals
 
@@ -196,12 +206,12 @@ convertible (vector_type kind size) (array_type element count) h = never h
 convertible (vector_type kind size) (struct_type number) h = never h
 convertible (array_type element count) to h = by_test (ty_eq (array_type element count) to) refl h
   where
-    by_test : (b : Bool) → ty_eq (array_type element count) to ≡ b → IsTrue (is_some (if b then Some 0 else None)) → (IsTrue (is_basic (array_type element count)) × IsTrue (is_basic to)) ⊎ IsTrue (ty_eq (array_type element count) to)
+    by_test : (b : Bool) → ty_eq (array_type element count) to ≡ b → IsTrue (is_some {T = ℕ} (if b then Some 0 else None)) → (IsTrue (is_basic (array_type element count)) × IsTrue (is_basic to)) ⊎ IsTrue (ty_eq (array_type element count) to)
     by_test true is h = inr is
     by_test false is h = never h
 convertible (struct_type number) to h = by_test (ty_eq (struct_type number) to) refl h
   where
-    by_test : (b : Bool) → ty_eq (struct_type number) to ≡ b → IsTrue (is_some (if b then Some 0 else None)) → (IsTrue (is_basic (struct_type number)) × IsTrue (is_basic to)) ⊎ IsTrue (ty_eq (struct_type number) to)
+    by_test : (b : Bool) → ty_eq (struct_type number) to ≡ b → IsTrue (is_some {T = ℕ} (if b then Some 0 else None)) → (IsTrue (is_basic (struct_type number)) × IsTrue (is_basic to)) ⊎ IsTrue (ty_eq (struct_type number) to)
     by_test true is h = inr is
     by_test false is h = never h
 
@@ -238,6 +248,7 @@ basic_beside from to numeric h = by_case (convertible from to h)
     same_basic (struct_type number) (vector_type k size) numeric h = never h
     same_basic (struct_type number) (array_type e n) numeric h = never h
     same_basic (struct_type number) (struct_type n) numeric h = never numeric
+
     by_case : (IsTrue (is_basic from) × IsTrue (is_basic to)) ⊎ IsTrue (ty_eq from to) → IsTrue (is_basic from)
     by_case (inl both) = both.0
     by_case (inr same) = same_basic from to numeric same
@@ -259,11 +270,11 @@ assigned_fits structs (Some op) to common value old before ws s typed typed' h f
     let basic = basic_numeric common h.2 in
     let basic_to = basic_beside to common h.2 h.3 in
     yields_giving (Fits structs common) (Fits structs to) (converted common to)
-        (λ computed f. conversion_fits structs common to computed (subst (IsType structs) h.1 typed') basic basic_to h.4 f)
-        (gives (binary_words op (component_kind common) (converted to common before) ws) s)
-        (gives_yields (Fits structs common) (binary_words op (component_kind common) (converted to common before) ws) s
-            (binary_fits structs op common common (converted to common before) ws (computing_type op common h.0 h.2)
-                (conversion_fits structs to common before typed basic_to basic h.3 (fits' tt)) (subst (λ t. Fits structs t ws) h.1 fits)))
+    (λ computed f. conversion_fits structs common to computed (subst (IsType structs) h.1 typed') basic basic_to h.4 f)
+    (gives (binary_words op (component_kind common) (converted to common before) ws) s)
+    (gives_yields (Fits structs common) (binary_words op (component_kind common) (converted to common before) ws) s
+    (binary_fits structs op common common (converted to common before) ws (computing_type op common h.0 h.2)
+    (conversion_fits structs to common before typed basic_to basic h.3 (fits' tt)) (subst (λ t. Fits structs t ws) h.1 fits)))
 
 assigned_value : (structs : List StructDef) (op : Option ℕ) (to common value : Ty) (old : Bool) (before written : List ℕ) → Assigns op to common value old → (IsComputing op → Fits structs to before) → Fits structs to written →
     Fits structs to (if old then before else written)
@@ -277,10 +288,10 @@ assigns_fits c to op common value old ixs ws s place typed typed' h fits =
     yields_after (λ before. IsComputing op → Fits c.scope.structs (place_type to) before) (Fits c.scope.structs (place_type to)) (read_if c op to ixs s) _ (reads op)
     (λ before s1 fits_before.
     yields_after (Fits c.scope.structs (place_type to)) (Fits c.scope.structs (place_type to)) (assigned op common (place_type to) before ws s1) _
-        (assigned_fits c.scope.structs op (place_type to) common value old before ws s1 typed typed' h fits fits_before)
+    (assigned_fits c.scope.structs op (place_type to) common value old before ws s1 typed typed' h fits fits_before)
     (λ written s2 fits_written.
     yields_giving (λ _. Unit {0}) (Fits c.scope.structs (place_type to)) (λ _. if old then before else written)
-        (λ _ x. assigned_value c.scope.structs op (place_type to) common value old before written h fits_before fits_written) (write_place c to ixs written s2) (yields_any (λ _. Unit {0}) (λ _. tt) (write_place c to ixs written s2))))
+    (λ _ x. assigned_value c.scope.structs op (place_type to) common value old before written h fits_before fits_written) (write_place c to ixs written s2) (yields_any (λ _. Unit {0}) (λ _. tt) (write_place c to ixs written s2))))
   where
     reads : (op : Option ℕ) → Yields (λ before. IsComputing op → Fits c.scope.structs (place_type to) before) (read_if c op to ixs s)
     reads None = λ x. absurd x
@@ -338,6 +349,10 @@ result_small structs (struct_type number) h = h.1
 place_typed : (s : Scope) (place : Location) → IsPlace s place → IsType s.structs (place_type place)
 place_typed s (a_location ty root parts) h = h.0.0
 
+-- a part without a value
+nothing_given : {A : Type 0} (structs : List StructDef) (p : Progress A) → Yields (Fits structs void_type) (no_value p)
+nothing_given structs p = yields_giving (λ a. Unit {0}) (Fits structs void_type) (λ a. []) (λ a x. nothing_fits structs) p (yields_any (λ a. Unit {0}) (λ a. tt) p)
+
 -- each function that may be called gives words of the type of its result
 abbrev pub CalleesFit : Context → Type 0
 CalleesFit c =
@@ -359,8 +374,8 @@ module _ (c : Context) (are : AreStructs c.scope.structs) (callees : CalleesFit 
       let one = one_fit c.scope.structs address words fits in
       subst (λ l. Yields (Fits c.scope.structs ty) (acts c ty (method_form resource count address no_expr) l s)) (sym one.1)
       (subst (λ t. Yields (Fits c.scope.structs t) (acts c t (method_form resource count address no_expr) (one.0 ∷ []) s)) (sym h)
-      (yields_giving (λ ws. length ws ≡ 4) (Fits c.scope.structs (components_type UintKind count)) (take count) (λ ws e. loaded count ws low e) (load_four _ _ 0 s)
-          (yields_giving (λ r. Unit {0}) (λ ws. length ws ≡ 4) (reply_words 4) (λ r x. refl) (asks _ s) (yields_any (λ r. Unit {0}) (λ r. tt) (asks _ s)))))
+      (yields_giving (λ ws. length ws ≡ 4) (Fits c.scope.structs (components_type UintKind count)) (take count) (λ ws e. loaded count ws low e) (load_four (slot_of c resource) (slice_index one.0 0) 0 s)
+      (four_long (slot_of c resource) (slice_index one.0 0) 0 s)))
     where
       loaded : (count : ℕ) (ws : List ℕ) → count ≤ 4 → length ws ≡ 4 → Fits c.scope.structs (components_type UintKind count) (take count ws)
       loaded count ws low e =
@@ -373,12 +388,9 @@ module _ (c : Context) (are : AreStructs c.scope.structs) (callees : CalleesFit 
       let two = two_fit c.scope.structs address value words fits in
       subst (λ l. Yields (Fits c.scope.structs ty) (acts c ty (method_form resource count address (some_expr value)) l s)) (sym two.2)
       (subst (λ t. Yields (Fits c.scope.structs t) (acts c t (method_form resource count address (some_expr value)) (two.0 ∷ two.1 ∷ []) s)) (sym h.0)
-      (yields_giving (λ r. Unit {0}) (Fits c.scope.structs void_type) (λ r. []) (λ r x. nothing_fits c.scope.structs) (asks _ s) (yields_any (λ r. Unit {0}) (λ r. tt) (asks _ s))))
+      (nothing_given c.scope.structs (asks (BufferStore (slot_of c resource) (slice_index two.0 0) 0 (length two.1) (take 4 (two.1 ++ replicate 4 0))) s)))
 
   -- an atomic operation gives no value
-  nothing_given : {A : Type 0} (p : Progress A) → Yields (Fits c.scope.structs void_type) (no_value p)
-  nothing_given p = yields_giving (λ a. Unit {0}) (Fits c.scope.structs void_type) (λ a. []) (λ a x. nothing_fits c.scope.structs) p (yields_any (λ a. Unit {0}) (λ a. tt) p)
-
   atomic_fits : (target : Target) (kind : Option AtomicKind) (compare : MaybeExpr) (value : Expr) (original : MaybeLocation) (words : List (List ℕ)) (s : State) →
       Yields (Fits c.scope.structs void_type) (acts c void_type (atomic_form target kind compare value original) words s)
   atomic_fits target kind compare value original [] s = nothing_fits c.scope.structs
@@ -386,7 +398,8 @@ module _ (c : Context) (are : AreStructs c.scope.structs) (callees : CalleesFit 
   atomic_fits target kind compare value original (x ∷ y ∷ []) s = nothing_fits c.scope.structs
   atomic_fits target kind compare value original (x ∷ y ∷ z ∷ []) s = nothing_fits c.scope.structs
   atomic_fits target kind compare value original (x ∷ y ∷ z ∷ q ∷ []) s =
-      yields_after (λ w. Unit {0}) (Fits c.scope.structs void_type) _ _ (yields_any (λ w. Unit {0}) (λ w. tt) _) (λ w s1 h. nothing_given _)
+      yields_after (λ w. Unit {0}) (Fits c.scope.structs void_type) (atomic_original c target kind x (slice_index y 0) (slice_index z 0) s) (λ before s1. no_value (write_if c original q (before ∷ []) s1))
+      (yields_any (λ w. Unit {0}) (λ w. tt) (atomic_original c target kind x (slice_index y 0) (slice_index z 0) s)) (λ before s1 h. nothing_given c.scope.structs (write_if c original q (before ∷ []) s1))
   atomic_fits target kind compare value original (x ∷ y ∷ z ∷ q ∷ p ∷ words) s = nothing_fits c.scope.structs
 
   -- a form that isn't a call, on words that fit its operands
@@ -400,7 +413,7 @@ module _ (c : Context) (are : AreStructs c.scope.structs) (callees : CalleesFit 
       subst (λ l. Yields (Fits c.scope.structs ty) (acts c ty (write_form to op common value old) (concat (take (length (place_exprs to)) words) ∷ l) s)) (sym one.1)
       (subst (λ t. Yields (Fits c.scope.structs t) (assigns c to op common old (concat (take (length (place_exprs to)) words)) one.0 s)) h.2
       (assigns_fits c to op common (type_of value) old (concat (take (length (place_exprs to)) words)) one.0 s h.0 (place_typed c.scope to h.0) (value_type c.scope value value_is.0).0
-          (subst (λ t. Assigns op t common (type_of value) old) (sym h.2) h.4) one.2))
+      (subst (λ t. Assigns op t common (type_of value) old) (sym h.2) h.4) one.2))
   acts_fit ty (convert_form value) _ h values words s fits =
       let one = one_fit c.scope.structs value words fits in
       subst (λ l. Yields (Fits c.scope.structs ty) (acts c ty (convert_form value) l s)) (sym one.1) (by_case (convertible (type_of value) ty h.1) one.0 one.2)
@@ -414,30 +427,30 @@ module _ (c : Context) (are : AreStructs c.scope.structs) (callees : CalleesFit 
   acts_fit ty (binary_form op left right) _ h values words s fits =
       let two = two_fit c.scope.structs left right words fits in
       subst (λ l. Yields (Fits c.scope.structs ty) (acts c ty (binary_form op left right) l s)) (sym two.2)
-          (gives_yields (Fits c.scope.structs ty) (binary_words op (component_kind (type_of left)) two.0 two.1) s
-              (binary_fits c.scope.structs op (type_of left) ty two.0 two.1 h.3 two.3 (subst (λ t. Fits c.scope.structs t two.1) (sym h.2) two.4)))
+      (gives_yields (Fits c.scope.structs ty) (binary_words op (component_kind (type_of left)) two.0 two.1) s
+      (binary_fits c.scope.structs op (type_of left) ty two.0 two.1 h.3 two.3 (subst (λ t. Fits c.scope.structs t two.1) (sym h.2) two.4)))
   acts_fit ty (choose_form cond consequent alternative) _ h values words s fits =
       let three = three_fit c.scope.structs cond consequent alternative words fits in
       subst (λ l. Yields (Fits c.scope.structs ty) (acts c ty (choose_form cond consequent alternative) l s)) (sym three.3)
-          (chosen_fits c.scope.structs ty three.0 three.1 three.2 h.6 (subst (λ t. Fits c.scope.structs t three.0) h.3 three.4) (subst (λ t. Fits c.scope.structs t three.1) h.4 three.5)
-              (subst (λ t. Fits c.scope.structs t three.2) h.5 three.6))
+      (chosen_fits c.scope.structs ty three.0 three.1 three.2 h.6 (subst (λ t. Fits c.scope.structs t three.0) h.3 three.4) (subst (λ t. Fits c.scope.structs t three.1) h.4 three.5)
+      (subst (λ t. Fits c.scope.structs t three.2) h.5 three.6))
   acts_fit ty (build_form parts) _ h values words s fits = built_fits c.scope.structs ty (types_of parts) words h.1 (fit_types c.scope.structs parts words fits)
   acts_fit ty (pick_form value parts) _ h values words s fits =
       let one = one_fit c.scope.structs value words fits in
       subst (λ l. Yields (Fits c.scope.structs ty) (acts c ty (pick_form value parts) l s)) (sym one.1)
-          (pick_fits c.scope.structs are (type_of value) parts ty one.0 (value_type c.scope value values.0).1 h.2 h.4 one.2)
+      (pick_fits c.scope.structs are (type_of value) parts ty one.0 (value_type c.scope value values.0).1 h.2 h.4 one.2)
   acts_fit ty (call_form function args) e h values words s fits = absurd (true≢false e)
   acts_fit ty (intrinsic_form number args) _ h values words s fits = intrinsic_fits c.scope.structs c number (types_of args) ty words s h.1 (fit_types c.scope.structs args words fits)
   acts_fit ty (method_form resource count address value) _ h values words s fits = method_fits resource count address value ty words s h.2 h.5 fits
   acts_fit ty (atomic_form target kind compare value original) _ h values words s fits =
-      subst (λ t. Yields (Fits c.scope.structs t) (acts c t (atomic_form target kind compare value original) (grouped (atomic_form target kind compare value original) words) s)) (sym h.0) (atomic_fits target kind compare value original _ s)
+      subst (λ t. Yields (Fits c.scope.structs t) (acts c t (atomic_form target kind compare value original) (grouped (atomic_form target kind compare value original) words) s)) (sym h.0) (atomic_fits target kind compare value original (grouped (atomic_form target kind compare value original) words) s)
 
   plain_sound : (ty : Ty) (at : ℕ) (form : Form) → is_call_form form ≡ false → Every IsSound (operand_exprs form) → IsSound (an_expr ty at form)
   plain_sound ty at form plain sound h s =
       let values = form_values c.scope some_params ty form h.1 in
       subst (Yields (Fits c.scope.structs ty)) (sym (ap (λ p. after p (acts c ty form)) (operands_all c form s plain) ∙ after_giving (grouped form) (evaluate_all c (operand_exprs form) s) (acts c ty form)))
       (yields_after (FitEach c.scope.structs (operand_exprs form)) (Fits c.scope.structs ty) (evaluate_all c (operand_exprs form) s) (λ words s1. acts c ty form (grouped form words) s1) (all_fit (operand_exprs form) sound values s)
-          (λ words s1 fits. acts_fit ty form plain h.1 values words s1 fits))
+      (λ words s1 fits. acts_fit ty form plain h.1 values words s1 fits))
 
   call_sound : (ty : Ty) (at function : ℕ) (args : Args) → IsSound (an_expr ty at (call_form function args))
   call_sound ty at function args h s = by_function (slice_get c.scope.functions function) refl h.1.0
@@ -447,10 +460,10 @@ module _ (c : Context) (are : AreStructs c.scope.structs) (callees : CalleesFit 
       by_function (Some d) is result =
           yields_after (λ words. Unit {0}) (Fits c.scope.structs ty) (arguments c args (parameters_of c function) s) _ (yields_any (λ words. Unit {0}) (λ words. tt) (arguments c args (parameters_of c function) s)) (λ words s1 x.
           yields_after (Fits c.scope.structs ty) (Fits c.scope.structs ty) (slice_index_or c.callees function no_callee (starts words) s1.exchange) _
-              (subst (λ t. Yields (Fits c.scope.structs t) (slice_index_or c.callees function no_callee (starts words) s1.exchange)) (same_Some d.result ty result) (callees function d is (starts words) s1.exchange))
+          (subst (λ t. Yields (Fits c.scope.structs t) (slice_index_or c.callees function no_callee (starts words) s1.exchange)) (same_Some d.result ty result) (callees function d is (starts words) s1.exchange))
           (λ result ended fits.
           yields_giving (λ _. Unit {0}) (Fits c.scope.structs ty) (λ _. result) (λ _ y. fits) (copies_out c args words ended.variables (record s1 { exchange = ended.exchange }))
-              (yields_any (λ _. Unit {0}) (λ _. tt) (copies_out c args words ended.variables (record s1 { exchange = ended.exchange })))))
+          (yields_any (λ _. Unit {0}) (λ _. tt) (copies_out c args words ended.variables (record s1 { exchange = ended.exchange })))))
 
   sound_step : Step IsSound
   sound_step ty at (literal_form word) sound = plain_sound ty at (literal_form word) refl sound

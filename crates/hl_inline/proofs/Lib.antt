@@ -66,3 +66,4 @@ pub mod FlatFunctions
 pub mod FlatProgram
 pub mod Keeping
 pub mod IndexedExamples
+pub mod Entered

@@ -10,3 +10,4 @@ pub mod Flattening
 pub mod Building
 pub mod Keeps
 pub mod HeldFlat
+pub mod Entering

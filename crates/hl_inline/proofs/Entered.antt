@@ -1,5 +1,5 @@
 -- The program without calls around the body of its entry.
-use Rattle.std.proofs.Common.{◌≡◌, ◌∙◌, ap, sym, ℕ, zero, suc, ◌+◌, ◌<◌, ◌≤◌, ◌⊎◌, inl, inr, subst, List, [], ◌∷◌, ◌++◌, append_assoc, length, length-append, map, take, Some}
+use Rattle.std.proofs.Common.{◌≡◌, ◌∙◌, ap, sym, ℕ, zero, suc, ◌+◌, ◌<◌, ◌≤◌, ◌⊎◌, inl, inr, subst, List, [], ◌∷◌, ◌++◌, append_assoc, get_or, length, length-append, map, take, Some}
 use Rattle.std.specs.Prelude.{slice_get}
 use Rattle.std.proofs.Math.Logic.{∥∥₁_elim}
 use Rattle.std.proofs.Props.{props}
@@ -15,7 +15,7 @@ use Rattle.hl_inline.specs.Entering.{entry_before, entry_behind}
 use Rattle.hl_inline.specs.FlatTrees.{Flat, FlatStmt, flat_block, flat_named}
 use Rattle.hl_inline.specs.FlatViews.{flat_stmts_of}
 use Rattle.hl_inline.specs.Flattening.{Fresh, Inlined, Instance, Laid, entry_body, entry_fresh, entry_instance, entry_of, flat_around, flattened, inlined, inlined_after, inlined_at, laid_with, next_of, set_constants, set_inputs}
-use Rattle.hl_inline.proofs.InlinedLemmas.{inlined_there}
+use Rattle.hl_inline.proofs.CalleeLemmas.{callee_found}
 
 -- the code of the entry, behind what is set first
 pub entry-code : (p : Program) (d : FunctionDef) (f : Inlined) (fresh : Fresh) (first result : ℕ) (code : List FlatStmt) (y : Laid) → first ≡ length p.constants → result ≡ next_of fresh → code ≡ entry_before p d
@@ -54,20 +54,9 @@ abbrev pub started : (constants variables : List Variable) → Fresh
 started constants variables = record { variables = constants ++ variables; names = 1 }
 
 -- the entry, as it is called
-pub entry-is : (p : Program) (functions : List HeldFunction) (number : ℕ) (entry : HeldFunction) → p.functions ≡ map plain_function functions → p.entry ≡ number
-    → slice_get functions number ≡ Some entry → entry_of p ≡ inlined (inlined_all (take number functions)) (plain_function entry)
-entry-is p functions number entry all number-is there =
-    ap (λ l. entry_among l p.entry) all ∙ (ap (entry_among (map plain_function functions)) number-is ∙
-    (inlined_there (map plain_function functions) number (plain_function entry) (get_mapped functions number there) ∙
-    ap (λ l. inlined (inlined_after [] l) (plain_function entry)) (take-map plain_function number functions)))
-  where
-    entry_among : List FunctionDef → ℕ → Inlined
-    entry_among fs n = inlined_at (inlined_after [] fs) n
-
-    get_mapped : (fs : List HeldFunction) (n : ℕ) → slice_get fs n ≡ Some entry → slice_get (map plain_function fs) n ≡ Some (plain_function entry)
-    get_mapped [] n e = absurd (cc)
-    get_mapped (f ∷ fs) zero e = cc
-    get_mapped (f ∷ fs) (suc n) e = get_mapped fs n e
+pub entry-is : (held functions : List HeldFunction) (number : ℕ) (entry : HeldFunction) → held ≡ functions → number < length functions → entry ≡ get_or functions number entry
+    → inlined_at (inlined_all held) number ≡ inlined (inlined_all (take number functions)) (plain_function entry)
+entry-is held functions number entry same within is = ap (λ l. inlined_at (inlined_all l) number) same ∙ callee_found functions number entry within is
 
 pub flattened-as : (p : Program) (f : Inlined) → entry_of p ≡ f → flattened p ≡ flat_around p f (entry_body p f)
 unfolding flattened

@@ -1,4 +1,3 @@
-pub mod EntryLemmas
 pub mod GivenEmissions
 pub mod Weights
 pub mod LayingLemmas
@@ -36,6 +35,7 @@ pub mod OneStatement
 pub mod Growing
 pub mod Settled
 pub mod Callees
+pub mod Entered
 pub mod ValueFits
 pub mod ReachedTypes
 pub mod IntrinsicFits
@@ -66,4 +66,3 @@ pub mod FlatFunctions
 pub mod FlatProgram
 pub mod Keeping
 pub mod IndexedExamples
-pub mod Entered

@@ -138,9 +138,3 @@ expr_calls k i expr = (emitter k i (plain_expr expr)).calls
 
 abbrev pub part_calls : List Inlined → Instance → held_part.PathPart → Bool
 part_calls k i part = any_calls (part_emitters k i (plain_part part))
-
--- the whole code of a program: what sets the constants and the inputs, and the body of the entry
-abbrev pub entry_code : Program → Laid
-entry_code p =
-    laid_with (set_constants p.structs 0 p.constants ++ set_inputs (length p.constants) (entry_of p).parameters)
-        (named_body (entry_of p) (entry_instance p (entry_of p)) (entry_fresh p (entry_of p)))

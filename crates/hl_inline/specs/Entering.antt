@@ -1,7 +1,6 @@
--- What the body of the entry stands behind, and the program without calls that is held.
+-- What the body of the entry stands behind, and the parts of a program without calls that are held.
 use Rattle.std.specs.Prelude.{List, ◌++◌, length}
 use Rattle.hl_meaning.specs.Programs.{FunctionDef, Program}
-use Rattle.hl_inline.specs.declared.flat.Flat.{Flat}
 use Rattle.hl_inline.specs.declared.inlining.Parts.{Parts}
 use Rattle.hl_inline.specs.FlatTrees as plain
 use Rattle.hl_inline.specs.FlatViews.{flat_of}
@@ -17,6 +16,3 @@ entry_behind p fresh = record { first = length p.constants; result = next_of fre
 
 abbrev pub plain_parts : Parts → plain.Flat
 plain_parts f = flat_of f.structs f.variables f.resources f.shared f.threads f.body
-
-abbrev pub plain_flat : Flat → plain.Flat
-plain_flat f = flat_of f.structs f.variables f.resources f.shared f.threads f.body

@@ -1,16 +1,17 @@
 //! Programs become programs without calls.
 
-ghost use Rattle.std.specs.Prelude.{◌≡◌, ◌≤◌, ◌++◌, IfOk, map};
+ghost use Rattle.std.specs.Prelude.{◌≡◌, ◌≤◌, IfOk};
 ghost use Rattle.lane_core.specs.SameLane.{SameLane};
 ghost use Rattle.hl_meaning.specs.Held.{plain_program};
 ghost use Rattle.hl_meaning.specs.Sums.{variable_words};
-ghost use Rattle.hl_meaning.specs.Views.{plain_constant, plain_function, plain_structs};
+ghost use Rattle.hl_meaning.specs.Views.{plain_function};
 ghost use Rattle.hl_source.specs.SourceLane.{source_lane};
-ghost use Rattle.hl_inline.specs.Building.{callees_in, entry_code, instance_in, laid_to, named_body, plain_code, plain_fresh};
+ghost use Rattle.hl_inline.specs.Building.{inlined_all, laid_to, named_body, plain_code, plain_fresh};
+ghost use Rattle.hl_inline.specs.Entering.{entry_before, entry_behind, plain_parts};
 ghost use Rattle.hl_inline.specs.FlatLane.{flat_lane};
-ghost use Rattle.hl_inline.specs.HeldFlat.{plain_flat};
 ghost use Rattle.hl_inline.specs.FlatWellFormed.{most_shared_words};
-ghost use Rattle.hl_inline.specs.Flattening.{flattened, inlined, laid_with, set_constants, set_inputs};
+ghost use Rattle.hl_inline.specs.Flattening.{flattened, inlined, laid_with};
+ghost use Rattle.hl_inline.specs.HeldFlat.{plain_flat};
 ghost use Rattle.hl_inline.specs.Keeps.{Keeps};
 
 use crate::calling::lay_named;
@@ -21,8 +22,19 @@ use crate::flat::{Flat, FlatStmts};
 use crate::fresh::Fresh;
 use crate::parts::{copied_resources, copied_structs, copied_variables};
 use base_core::NoMemory;
-use hl_meaning::{FunctionDef, Program};
+use hl_meaning::{FunctionDef, Program, Resources, StructDefs, Variables};
 use std::alloc::Global;
+
+/// The parts of a program without calls.
+#[derive(Debug, Drop)]
+struct Parts {
+    structs: StructDefs,
+    variables: Variables,
+    resources: Resources,
+    shared: Variables,
+    threads: [u32; 3],
+    body: FlatStmts,
+}
 
 /// The program without calls. Each call is replaced by the body of its function, with variables and names of its own.
 /// It has the structs, buffers, groupshared variables and threads of the program, and each lane runs as it does there.
@@ -42,65 +54,63 @@ fn without_calls(alloc: Global, program: &Program) -> Result<Flat, NoMemory>
     requires { variable_words (plain_program program.now).structs (plain_program program.now).shared ≤ most_shared_words }
     ensures { IfOk result (λ flat. plain_flat flat ≡ flattened (plain_program program.now)) }
 {
-    let laid = laid_entry(alloc, program)?;
-    let structs = copied_structs(alloc, &program.structs)?;
-    let resources = copied_resources(alloc, &program.resources)?;
-    let shared = copied_variables(alloc, &program.shared)?;
-    let LaidEntry { code, fresh } = laid;
-    let Fresh { variables, .. } = fresh;
+    let parts = flat_parts(alloc, program)?;
+    let threads = parts.threads;
     Ok(Flat {
-        structs,
-        variables,
-        resources,
-        shared,
-        threads: program.threads,
-        body: code,
+        structs: parts.structs,
+        variables: parts.variables,
+        resources: parts.resources,
+        shared: parts.shared,
+        threads,
+        body: parts.body,
     })
 }
 
-/// The whole code of a program, and what is free behind it.
-#[derive(Debug, Drop)]
-struct LaidEntry {
-    code: FlatStmts,
-    fresh: Fresh,
-}
-
-/// The code of the entry.
-fn laid_entry(alloc: Global, program: &Program) -> Result<LaidEntry, NoMemory>
-    ensures { IfOk result (λ laid. entry_code (plain_program program.now) ≡ laid_to (plain_code laid.code) (plain_fresh laid.fresh)) }
+/// The parts of the program without calls.
+fn flat_parts(alloc: Global, program: &Program) -> Result<Parts, NoMemory>
+    ensures { IfOk result (λ parts. plain_parts parts ≡ flattened (plain_program program.now)) }
 {
+    let threads = program.threads;
     let number = program.entry as usize;
     let functions = program.functions.as_slice();
     let entry = &functions[number];
+    let callees = &functions[..number];
     let mut fresh = entry_fresh(alloc, program.constants.as_slice(), entry)?;
-    let context = Context {
-        alloc,
-        functions: &functions[..number],
-        first: program.constants.len() as u32,
-        result: fresh.next(),
-        exit: 0,
-    };
-    let code = code_of(&context, program, entry, &mut fresh)?;
-    Ok(LaidEntry { code, fresh })
+    let body = entry_code(alloc, program, callees, entry, &mut fresh)?;
+    let structs = copied_structs(alloc, &program.structs)?;
+    let resources = copied_resources(alloc, &program.resources)?;
+    let shared = copied_variables(alloc, &program.shared)?;
+    Ok(Parts {
+        structs,
+        variables: fresh.variables,
+        resources,
+        shared,
+        threads,
+        body,
+    })
 }
 
 /// What sets the constants and the inputs, and the body of the entry.
-fn code_of(
-    context: &Context,
+fn entry_code(
+    alloc: Global,
     program: &Program,
+    callees: &[FunctionDef],
     entry: &FunctionDef,
     fresh: &mut Fresh,
 ) -> Result<FlatStmts, NoMemory>
-    ensures { IfOk result (λ code. laid_with (set_constants (plain_structs program.now.structs) 0 (map plain_constant program.now.constants) ++ set_inputs context.now.first entry.now.parameters) (named_body (inlined (callees_in context.now) (plain_function entry.now)) (instance_in context.now) (plain_fresh fresh.old)) ≡ laid_to (plain_code code) (plain_fresh fresh.new)) }
+    ensures { IfOk result (λ code. laid_with (entry_before (plain_program program.now) (plain_function entry.now)) (named_body (inlined (inlined_all callees.now) (plain_function entry.now)) (entry_behind (plain_program program.now) (plain_fresh fresh.old)) (plain_fresh fresh.old)) ≡ laid_to (plain_code code) (plain_fresh fresh.new)) }
 {
-    let mut code = FlatStmts::new(context.alloc);
-    set_constants(
-        context.alloc,
-        &program.structs,
-        &program.constants,
-        &mut code,
-    )?;
-    set_inputs(context.first, entry.parameters.as_slice(), &mut code)?;
-    lay_named(context, entry, fresh, &mut code)?;
+    let first = program.constants.len() as u32;
+    let context = Context {
+        alloc,
+        functions: callees,
+        first,
+        result: fresh.next(),
+        exit: 0,
+    };
+    let mut code = FlatStmts::new(alloc);
+    set_constants(alloc, &program.structs, &program.constants, &mut code)?;
+    set_inputs(first, entry.parameters.as_slice(), &mut code)?;
+    lay_named(&context, entry, fresh, &mut code)?;
     Ok(code)
 }

@@ -1,12 +1,9 @@
-use Rattle.std.proofs.Common.{◌≡◌, ◌∙◌, ◌<◌, ◌++◌, Some, ap, arith, length, length-take, map, refl, sym, take}
-use Rattle.std.specs.Prelude.{slice_get}
+use Rattle.std.proofs.Common.{◌≡◌, ◌∙◌, ◌<◌, ◌++◌, ap, arith, length, length-take, map, sym, take}
 use Rattle.std.proofs.lemmas.List.{length-map}
-use Rattle.std.proofs.lemmas.Option.{slice_get-get_or}
 use Rattle.hl_meaning.specs.Held.{plain_program}
-use Rattle.hl_meaning.specs.Programs.{Variable}
 use Rattle.hl_meaning.specs.Views.{plain_constant, plain_function, plain_resource, plain_struct, plain_variable}
 use Rattle.hl_inline.specs.Building.{constant_variables, inlined_all, plain_code, plain_fresh}
-use Rattle.hl_inline.specs.Flattening.{Fresh, entry_of, inlined}
+use Rattle.hl_inline.specs.Flattening.{entry_of, inlined}
 use Rattle.hl_inline.proofs.Entered.{entry-is, entry_there, flat-around, flat-parts, flattened-as, started}
 use Rattle.hl_inline.proofs.inlining.flat_parts.Goals as goal
 
@@ -34,8 +31,7 @@ returns c =
     let code = plain_code c.in_ok-body.body in
     let within : held.entry < length functions =
     omega (arith, entry_there p held.well_formed, length-map held.functions plain_function, ap length c.as_slice-functions.ensures.value) in
-    let there : slice_get functions held.entry ≡ Some entry = slice_get-get_or functions held.entry entry within ∙ ap Some (sym c.index-functions-number.is) in
-    let called : entry_of p ≡ inlined k d = entry-is p functions held.entry entry (ap (map plain_function) (sym c.as_slice-functions.ensures.value)) refl there in
+    let called : entry_of p ≡ inlined k d = entry-is held.functions functions held.entry entry (sym c.as_slice-functions.ensures.value) within c.index-functions-number.is in
     flat-parts p (map plain_struct c.in_ok-structs.structs) now.variables (map plain_resource c.in_ok-resources.resources) (map plain_variable c.in_ok-shared.shared) code
     c.in_ok-structs.ensures c.in_ok-resources.ensures c.in_ok-shared.ensures ∙
     (sym (flat-around p d k fresh now code

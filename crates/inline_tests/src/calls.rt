@@ -132,3 +132,62 @@ fn a_function_that_is_called_twice_has_its_variables_twice(rt: HostRuntime) -> R
     }
     Ok(())
 }
+
+#[test]
+fn a_call_in_the_condition_of_a_loop_stands_in_the_loop(rt: HostRuntime) -> Result<(), Fail> {
+    let text =
+        b"bool g(uint v) { return v < 3; }\n[numthreads(1,1,1)] void main() { uint x = 0; while (g(x)) x = x + 1; }";
+    match flat_of(rt.alloc(), text)? {
+        Some(flat) => {
+            assert_eq!(rt; flat.variables.len(), 3);
+            match turn_of(body_of(&flat)) {
+                [
+                    FlatStmt::Local { variable: 1, .. },
+                    FlatStmt::Named { name: 3, .. },
+                    FlatStmt::If { .. },
+                    FlatStmt::Named { name: 2, .. },
+                ] => {}
+                _ => assert!(rt; false),
+            }
+        }
+        None => assert!(rt; false),
+    }
+    Ok(())
+}
+
+/// The statements of a turn of a loop that stands behind a declaration.
+fn turn_of(stmts: &[FlatStmt]) -> &[FlatStmt] {
+    match stmts {
+        [FlatStmt::Local { .. }, FlatStmt::Named { name: 1, body }] => match body.get() {
+            FlatStmt::Loop(turn) => match turn.get() {
+                FlatStmt::Block(stmts) => stmts.as_slice(),
+                _ => &[],
+            },
+            _ => &[],
+        },
+        _ => &[],
+    }
+}
+
+#[test]
+fn a_call_in_an_argument_comes_before_the_call(rt: HostRuntime) -> Result<(), Fail> {
+    let text =
+        b"uint h(uint v) { return v * 2; }\n[numthreads(1,1,1)] void main() { uint x = h(h(1)); }";
+    match flat_of(rt.alloc(), text)? {
+        Some(flat) => {
+            assert_eq!(rt; flat.variables.len(), 5);
+            match body_of(&flat) {
+                [
+                    FlatStmt::Local { variable: 3, .. },
+                    FlatStmt::Named { name: 2, .. },
+                    FlatStmt::Local { variable: 1, .. },
+                    FlatStmt::Named { name: 1, .. },
+                    FlatStmt::Local { variable: 0, .. },
+                ] => {}
+                _ => assert!(rt; false),
+            }
+        }
+        None => assert!(rt; false),
+    }
+    Ok(())
+}

@@ -8,6 +8,6 @@ pub mod Early
 pub mod Marking
 pub mod Flattening
 pub mod Building
-pub mod Entering
 pub mod Keeps
 pub mod HeldFlat
+pub mod Entering

@@ -33,10 +33,10 @@ use std::alloc::Global;
 #[cycle(inlining)]
 pub(crate) fn emit_call(
     context: &Context,
-    ty: &HlType,
-    at: usize,
     function: u32,
     args: &[Arg],
+    ty: &HlType,
+    at: usize,
     fresh: &mut Fresh,
     code: &mut FlatStmts,
 ) -> Result<Formed, NoMemory>
@@ -55,7 +55,7 @@ pub(crate) fn emit_call(
         exit: fresh.names,
     };
     add_instance(context.alloc, callee, ty, at, fresh)?;
-    emit_around(context, &inner, callee, ty, at, args, fresh, code)
+    emit_around(context, &inner, callee, args, ty, at, fresh, code)
 }
 
 /// A call of a function that isn't there.
@@ -81,9 +81,9 @@ fn emit_around(
     context: &Context,
     inner: &Context,
     callee: &FunctionDef,
+    args: &[Arg],
     ty: &HlType,
     at: usize,
-    args: &[Arg],
     fresh: &mut Fresh,
     code: &mut FlatStmts,
 ) -> Result<Formed, NoMemory>

@@ -110,7 +110,7 @@ fn emit_form(
             Ok(open(Form::Pick { value, parts }))
         }
         Form::Call { function, args } => {
-            emit_call(context, ty, at, *function, args.as_slice(), fresh, code)
+            emit_call(context, *function, args.as_slice(), ty, at, fresh, code)
         }
         Form::Intrinsic { number, args } => {
             let args = emit_exprs(context, args, fresh, code)?;

@@ -21,8 +21,6 @@ mod mentions;
 mod parts;
 mod places;
 mod settling;
-#[cfg(test)]
-mod tests;
 
 pub use flat::{Flat, FlatStmt, FlatStmts};
 pub use inlining::inline;

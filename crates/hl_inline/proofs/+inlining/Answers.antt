@@ -1,16 +1,22 @@
-use Rattle.std.proofs.Common.{◌≡◌, ◌∙◌, refl, sym, ap, ◌||◌, ◌+◌, false, true, List, [], ◌∷◌, ◌++◌, map, drop, rules}
-use Rattle.std.proofs.lemmas.List.{map-append}
-use Rattle.hl_meaning.specs.Trees.{a_location, an_expr, atomic_form, binary_form, build_form, call_form, choose_form, constant_root, convert_form, element_root, index_part, intrinsic_form, literal_form, member_part, method_form, no_expr, no_location, pick_form, place_target, bytes_target, read_form, shared_root, some_expr, some_location, swizzle_part, unary_form, variable_root, write_form}
-use Rattle.hl_meaning.specs.Views.{exprs_of, plain_args, plain_expr, plain_exprs, plain_form, plain_location, plain_maybe_expr, plain_maybe_location, plain_part, plain_parts, plain_root, plain_target, plain_ty}
-use Rattle.hl_meaning.proofs.Plain.{plain_expr-is, plain_form-Atomic, plain_form-Binary, plain_form-Build, plain_form-Call, plain_form-Choose, plain_form-Convert, plain_form-Intrinsic, plain_form-Literal, plain_form-Method, plain_form-Pick, plain_form-Read, plain_form-Unary, plain_form-Write, plain_location-is, plain_part-Index, plain_part-Member, plain_part-Swizzle, plain_root-Constant, plain_root-Element, plain_root-Shared, plain_root-Variable, plain_target-Bytes, plain_target-Place}
-use Rattle.hl_inline.specs.Operands.{filled_expr_if, filled_parts, filled_place, filled_place_if, filled_root, filled_target}
-use Rattle.hl_inline.specs.Flattening.{any_calls, emit_all, emitted, expr_if_emitters, exprs_emitters, form_emitter, part_emitters, parts_emitters, place_emitters, place_if_emitters, root_emitters, settled, target_emitters}
-use Rattle.hl_inline.specs.Building.{behind, callees_in, expr_calls, filled_part, instance_in, last_true, made, made_behind, operand_behind, part_calls, plain_code, plain_fresh, valued}
-use Rattle.hl_inline.proofs.GivenForms.{expr-as, location-as}
+use Rattle.std.proofs.Common.{◌≡◌, ◌∙◌, refl, sym, ap, ◌||◌, ◌+◌, false, true, List, [], ◌∷◌, ◌++◌, map, drop, rules, ◌<◌, ◌≤◌, None, arith, get_or, length, min, option_map, take}
+use Rattle.std.proofs.lemmas.List.{map-append, get_or_default}
+use Rattle.hl_meaning.proofs.Plain.{plain_expr-is, plain_form-Atomic, plain_form-Binary, plain_form-Build, plain_form-Call, plain_form-Choose, plain_form-Convert, plain_form-Intrinsic, plain_form-Literal, plain_form-Method, plain_form-Pick, plain_form-Read, plain_form-Unary, plain_form-Write, plain_location-is, plain_part-Index, plain_part-Member, plain_part-Swizzle, plain_root-Constant, plain_root-Element, plain_root-Shared, plain_root-Variable, plain_target-Bytes, plain_target-Place, plain_arg-Place, plain_arg-Value, plain_stmt-Block, plain_stmt-Break, plain_stmt-Continue, plain_stmt-Do, plain_stmt-For, plain_stmt-If, plain_stmt-Local, plain_stmt-Return, plain_stmt-Run, plain_stmt-While}
+use Rattle.hl_meaning.specs.Trees.{a_location, an_expr, atomic_form, binary_form, build_form, call_form, choose_form, constant_root, convert_form, element_root, index_part, intrinsic_form, literal_form, member_part, method_form, no_expr, no_location, pick_form, place_target, bytes_target, read_form, shared_root, some_expr, some_location, swizzle_part, unary_form, variable_root, write_form, do_stmt, for_stmt, if_stmt, while_stmt}
+use Rattle.hl_meaning.specs.Views.{exprs_of, plain_args, plain_expr, plain_exprs, plain_form, plain_location, plain_maybe_expr, plain_maybe_location, plain_part, plain_parts, plain_root, plain_target, plain_ty, plain_arg, plain_function, plain_maybe_stmt, plain_stmt, plain_stmts}
+use Rattle.hl_meaning.specs.declared.program.Copying.TheVariants.{CopyIn}
+use Rattle.hl_meaning.specs.declared.program.Parameter.{Parameter}
 use Rattle.hl_inline.proofs.BuildingLemmas.{map_made, none, values_behind}
+use Rattle.hl_inline.proofs.CalleeLemmas.{called, called_missing, callee_found, callee_missing, instance, stands_at, weight_before, weight_within}
 use Rattle.hl_inline.proofs.EmittingLemmas.{atomic_done, binary_done, build_done, bytes_done, choose_done, convert_done, element_done, expr_if_done, index_done, intrinsic_done, method_done, pick_done, place_done, read_done, unary_done, write_done}
 use Rattle.hl_inline.proofs.GivenEmissions.{called_as, emitted_as, formed, literal_done, settled_as}
+use Rattle.hl_inline.proofs.GivenForms.{expr-as, location-as}
+use Rattle.hl_inline.proofs.LayingLemmas.{jumped, laid-as, pass-end, pass-turn, place-passed, value-passed}
 use Rattle.hl_inline.proofs.WalkLemmas.{em, exprs_end, exprs_held, exprs_next, parts_end, parts_flag, parts_left, parts_next}
+use Rattle.hl_inline.proofs.Weights.{expr_if, stmt_if, stmt_weight, stmt_weight-Block, stmt_weight-Do, stmt_weight-For, stmt_weight-If, stmt_weight-Local, stmt_weight-Return, stmt_weight-Run, stmt_weight-While, stmts_weight}
+use Rattle.hl_inline.specs.Building.{behind, callees_in, expr_calls, filled_part, instance_in, last_true, made, made_behind, operand_behind, part_calls, plain_code, plain_fresh, valued, inlined_all, passed_behind, plain_jumps}
+use Rattle.hl_inline.specs.Flattening.{any_calls, emit_all, emitted, expr_if_emitters, exprs_emitters, form_emitter, part_emitters, parts_emitters, place_emitters, place_if_emitters, root_emitters, settled, target_emitters, arg_emitter, args_emitters, inlined, inlined_at, pass_all}
+use Rattle.hl_inline.specs.Operands.{filled_expr_if, filled_parts, filled_place, filled_place_if, filled_root, filled_target}
+use Rattle.hl_inline.specs.declared.emitting.Formed.{Formed}
 use Rattle.hl_inline.proofs.+inlining.Goals as goal
 
 -- ---- expressions
@@ -430,3 +436,181 @@ places::emit_target-returns-in_ok-address-in-Bytes t c =
         (ap plain_target c.in-Bytes.is ∙ (plain_target-Bytes _ _ ∙ ap (λ v. bytes_target c.in-Bytes.resource (plain_expr v)) (sym c.get.ensures))) ∙
     (bytes_done k i code fresh c.args.further c.in-Bytes.resource (plain_expr c.get.result.now) _ c.in_ok-address-in-Bytes.ensures ∙
     ap (λ l. made (plain_code c.emit_boxed.new.code) l (plain_fresh c.emit_boxed.new.fresh)) (sym (plain_target-Bytes _ _)))
+
+-- ---- measures
+
+pub bodies::lay-lay_block-requires : goal.bodies::lay-lay_block-requires
+bodies::lay-lay_block-requires t c =
+    let w = ap stmt_weight c.in-Block.is ∙ stmt_weight-Block c.in-Block.body in
+    (omega arith, tt)
+
+pub bodies::lay-lay_local-requires : goal.bodies::lay-lay_local-requires
+bodies::lay-lay_local-requires t c =
+    let w = ap stmt_weight c.in-Local.is ∙ stmt_weight-Local c.in-Local.variable c.in-Local.init in
+    (omega arith, tt)
+
+pub bodies::lay-lay_run-requires : goal.bodies::lay-lay_run-requires
+bodies::lay-lay_run-requires t c =
+    let w = ap stmt_weight c.in-Run.is ∙ stmt_weight-Run c.in-Run.value in
+    (omega arith, tt)
+
+pub bodies::lay-lay_choice-requires : goal.bodies::lay-lay_choice-requires
+bodies::lay-lay_choice-requires t c =
+    let w = ap stmt_weight c.in-If.is ∙ stmt_weight-If c.in-If.cond c.in-If.yes c.in-If.no in
+    let g = ap stmt_weight c.get.ensures in
+    (omega arith, tt)
+
+pub bodies::lay-lay_for-requires : goal.bodies::lay-lay_for-requires
+bodies::lay-lay_for-requires t c =
+    let w = ap stmt_weight c.in-For.is ∙ stmt_weight-For c.in-For.init c.in-For.cond c.in-For.step c.in-For.body in
+    let g = ap stmt_weight c.get-in-For.ensures in
+    (omega arith, tt)
+
+pub bodies::lay-lay_while-requires : goal.bodies::lay-lay_while-requires
+bodies::lay-lay_while-requires t c =
+    let w = ap stmt_weight c.in-While.is ∙ stmt_weight-While c.in-While.cond c.in-While.body in
+    let g = ap stmt_weight c.get-in-While.ensures in
+    (omega arith, tt)
+
+pub bodies::lay-lay_do-requires : goal.bodies::lay-lay_do-requires
+bodies::lay-lay_do-requires t c =
+    let w = ap stmt_weight c.in-Do.is ∙ stmt_weight-Do c.in-Do.body c.in-Do.cond in
+    let g = ap stmt_weight c.get-in-Do.ensures in
+    (omega arith, tt)
+
+pub bodies::lay-lay_return-requires : goal.bodies::lay-lay_return-requires
+bodies::lay-lay_return-requires t c =
+    let w = ap stmt_weight c.in-Return.is ∙ stmt_weight-Return c.in-Return.value in
+    (omega arith, tt)
+
+pub calling::emit_call-emit_around-requires : goal.calling::emit_call-emit_around-requires
+calling::emit_call-emit_around-requires t c =
+    let fs = c.args.context.now.functions.now in
+    let n = c.args.function in
+    let within : n < length fs = omega arith in
+    let callee = get_or fs n c.index-context-number.result in
+    let w = weight_before fs n callee within (get_or_default fs n c.index-context-number.result callee within) in
+    (omega arith, tt)
+
+pub calling::emit_around-passed-requires : goal.calling::emit_around-passed-requires
+calling::emit_around-passed-requires t c = (omega arith, tt)
+
+-- ---- statements and calls
+
+pub bodies::lay-returns-in-Block : goal.bodies::lay-returns-in-Block
+bodies::lay-returns-in-Block t c =
+    laid-as (callees_in c.args.context.now) (instance_in c.args.context.now) (plain_jumps c.args.jumps) c.lay_block.result (plain_code c.args.code.now) (plain_fresh c.args.fresh.now) _ _ _
+    (ap plain_stmt c.in-Block.is ∙ plain_stmt-Block c.in-Block.body) (c.lay_block.ensures)
+
+pub bodies::lay-returns-in-Local : goal.bodies::lay-returns-in-Local
+bodies::lay-returns-in-Local t c =
+    laid-as (callees_in c.args.context.now) (instance_in c.args.context.now) (plain_jumps c.args.jumps) c.lay_local.result (plain_code c.args.code.now) (plain_fresh c.args.fresh.now) _ _ _
+    (ap plain_stmt c.in-Local.is ∙ plain_stmt-Local c.in-Local.variable c.in-Local.init) (c.lay_local.ensures)
+
+pub bodies::lay-returns-in-Run : goal.bodies::lay-returns-in-Run
+bodies::lay-returns-in-Run t c =
+    laid-as (callees_in c.args.context.now) (instance_in c.args.context.now) (plain_jumps c.args.jumps) c.lay_run.result (plain_code c.args.code.now) (plain_fresh c.args.fresh.now) _ _ _
+    (ap plain_stmt c.in-Run.is ∙ plain_stmt-Run c.in-Run.value) (c.lay_run.ensures)
+
+pub bodies::lay-returns-in-If : goal.bodies::lay-returns-in-If
+bodies::lay-returns-in-If t c =
+    laid-as (callees_in c.args.context.now) (instance_in c.args.context.now) (plain_jumps c.args.jumps) c.lay_choice.result (plain_code c.args.code.now) (plain_fresh c.args.fresh.now) _ _ _
+    (ap plain_stmt c.in-If.is ∙ (plain_stmt-If c.in-If.cond c.in-If.yes c.in-If.no ∙ sym (ap (λ s. if_stmt (plain_expr c.in-If.cond) (plain_stmt s) (plain_maybe_stmt c.in-If.no)) c.get.ensures))) (c.lay_choice.ensures)
+
+pub bodies::lay-returns-in-For : goal.bodies::lay-returns-in-For
+bodies::lay-returns-in-For t c =
+    laid-as (callees_in c.args.context.now) (instance_in c.args.context.now) (plain_jumps c.args.jumps) c.lay_for.result (plain_code c.args.code.now) (plain_fresh c.args.fresh.now) _ _ _
+    (ap plain_stmt c.in-For.is ∙ (plain_stmt-For c.in-For.init c.in-For.cond c.in-For.step c.in-For.body ∙ sym (ap (λ s. for_stmt (plain_stmts c.in-For.init) (option_map plain_expr c.in-For.cond) (option_map plain_expr c.in-For.step) (plain_stmt s)) c.get-in-For.ensures))) (c.lay_for.ensures)
+
+pub bodies::lay-returns-in-While : goal.bodies::lay-returns-in-While
+bodies::lay-returns-in-While t c =
+    laid-as (callees_in c.args.context.now) (instance_in c.args.context.now) (plain_jumps c.args.jumps) c.lay_while.result (plain_code c.args.code.now) (plain_fresh c.args.fresh.now) _ _ _
+    (ap plain_stmt c.in-While.is ∙ (plain_stmt-While c.in-While.cond c.in-While.body ∙ sym (ap (λ s. while_stmt (plain_expr c.in-While.cond) (plain_stmt s)) c.get-in-While.ensures))) (c.lay_while.ensures (plain_jumps c.args.jumps))
+
+pub bodies::lay-returns-in-Do : goal.bodies::lay-returns-in-Do
+bodies::lay-returns-in-Do t c =
+    laid-as (callees_in c.args.context.now) (instance_in c.args.context.now) (plain_jumps c.args.jumps) c.lay_do.result (plain_code c.args.code.now) (plain_fresh c.args.fresh.now) _ _ _
+    (ap plain_stmt c.in-Do.is ∙ (plain_stmt-Do c.in-Do.body c.in-Do.cond ∙ sym (ap (λ s. do_stmt (plain_stmt s) (plain_expr c.in-Do.cond)) c.get-in-Do.ensures))) (c.lay_do.ensures (plain_jumps c.args.jumps))
+
+pub bodies::lay-returns-in-Return : goal.bodies::lay-returns-in-Return
+bodies::lay-returns-in-Return t c =
+    laid-as (callees_in c.args.context.now) (instance_in c.args.context.now) (plain_jumps c.args.jumps) c.lay_return.result (plain_code c.args.code.now) (plain_fresh c.args.fresh.now) _ _ _
+    (ap plain_stmt c.in-Return.is ∙ plain_stmt-Return c.in-Return.value) (c.lay_return.ensures)
+
+pub bodies::lay-returns-in-Break : goal.bodies::lay-returns-in-Break
+bodies::lay-returns-in-Break t c =
+    jumped (callees_in c.args.context.now) (instance_in c.args.context.now) (plain_jumps c.args.jumps) c.add_leave.result (plain_code c.args.code.now) (plain_fresh c.args.fresh.now) _ _ _ _
+    (ap plain_stmt c.in-Break.is ∙ plain_stmt-Break) refl c.add_leave.ensures
+
+pub bodies::lay-returns-in-Continue : goal.bodies::lay-returns-in-Continue
+bodies::lay-returns-in-Continue t c =
+    jumped (callees_in c.args.context.now) (instance_in c.args.context.now) (plain_jumps c.args.jumps) c.add_leave-in-Continue.result (plain_code c.args.code.now) (plain_fresh c.args.fresh.now) _ _ _ _
+    (ap plain_stmt c.in-Continue.is ∙ plain_stmt-Continue) refl c.add_leave-in-Continue.ensures
+
+pub calling::pass-returns-in_ok-emitted-in-Value : goal.calling::pass-returns-in_ok-emitted-in-Value
+calling::pass-returns-in_ok-emitted-in-Value t c = λ parameter same.
+    value-passed (callees_in c.args.context.now) (instance_in c.args.context.now) c.args.at c.args.number (plain_code c.args.code.now) (plain_code c.args.copies.now) (plain_fresh c.args.fresh.now) parameter (plain_arg c.args.arg.now)
+    c.add_set.result (plain_expr c.in-Value.value) (plain_code c.emit.new.code) (plain_expr c.in_ok-emitted-in-Value.emitted.value) c.in_ok-emitted-in-Value.emitted.fixed (plain_fresh c.emit.new.fresh) (plain_code c.add_set.new.code)
+    (ap plain_arg c.in-Value.is ∙ plain_arg-Value c.in-Value.value) c.in_ok-emitted-in-Value.ensures c.add_set.ensures
+
+pub calling::pass-returns-in_ok-to-in-Place : goal.calling::pass-returns-in_ok-to-in-Place
+calling::pass-returns-in_ok-to-in-Place t c = λ parameter same.
+    place-passed (callees_in c.args.context.now) (instance_in c.args.context.now) c.args.at c.args.number (plain_code c.args.code.now) (plain_code c.args.copies.now) (plain_fresh c.args.fresh.now) parameter (plain_arg c.args.arg.now)
+    c.pass_place.result (plain_location c.in-Place.place) c.args.copying (plain_code c.emit_place.new.code) (plain_location c.in_ok-to-in-Place.to) (plain_fresh c.emit_place.new.fresh) (plain_code c.pass_place.new.code) (plain_code c.pass_place.new.copies)
+    (ap plain_arg c.in-Place.is ∙ plain_arg-Place c.in-Place.place) same c.in_ok-to-in-Place.ensures c.pass_place.ensures.code c.pass_place.ensures.copies
+
+-- what is read past the end
+abbrev no_parameter : Parameter
+no_parameter = record { variable = 0; copying = CopyIn; semantic = None }
+
+pub calling::pass_all-loop-index-preserved : goal.calling::pass_all-loop-index-preserved
+calling::pass_all-loop-index-preserved t c =
+    let k = callees_in c.args.context.now in
+    let i = instance_in c.args.context.now in
+    let n = c.loop-index.index in
+    let ps = c.as_slice-parameters.result.now in
+    let p = get_or ps n no_parameter in
+    let count : length ps ≡ length c.args.parameters.now = ap length c.as_slice-parameters.ensures.value in
+    let within : n < length c.args.args.now = omega arith in
+    let among : n < length ps = omega arith in
+    pass-turn k i c.args.at c.args.number c.args.args.now ps n c.index-args-index.result p _ (plain_code c.loop-index.code) (plain_code c.loop-index.copies) (plain_fresh c.loop-index.fresh)
+    (plain_code c.pass.new.code) (plain_code c.pass.new.copies) (plain_fresh c.pass.new.fresh)
+    within c.index-args-index.is among (get_or_default ps n no_parameter p among) c.loop-index.invariant
+    (ap (λ m. passed_behind (plain_code c.loop-index.code) (plain_code c.loop-index.copies) (pass_all i c.args.at m (arg_emitter k i (plain_arg c.index-args-index.result) ∷ []) (p ∷ []) (plain_fresh c.loop-index.fresh)))
+        (sym c.in_ok-variable.ensures) ∙ c.in_ok-pass.ensures p refl)
+
+pub calling::pass_all-returns : goal.calling::pass_all-returns
+calling::pass_all-returns t c =
+    let k = callees_in c.args.context.now in
+    let i = instance_in c.args.context.now in
+    let ps = c.as_slice-parameters.result.now in
+    let count : length ps ≡ length c.args.parameters.now = ap length c.as_slice-parameters.ensures.value in
+    let past : min (length c.args.args.now) (length ps) ≤ c.loop-index.index = omega arith in
+    ap (λ l. passed_behind (plain_code c.args.code.now) (plain_code c.args.copies.now) (pass_all i c.args.at c.args.number (args_emitters k i (plain_args c.args.args.now)) l (plain_fresh c.args.fresh.now))) (sym c.as_slice-parameters.ensures.value) ∙
+    pass-end k i c.args.at c.args.number c.args.args.now ps c.loop-index.index _ (plain_code c.loop-index.code) (plain_code c.loop-index.copies) (plain_fresh c.loop-index.fresh) past c.loop-index.invariant
+
+pub calling::emit_call-returns-then-number-context : goal.calling::emit_call-returns-then-number-context
+calling::emit_call-returns-then-number-context t c =
+    let k = callees_in c.args.context.now in
+    let i = instance_in c.args.context.now in
+    called_missing c.emit_missing.result
+    (λ (made : Formed). valued (plain_code c.emit_missing.new.code) (an_expr (plain_ty c.args.ty.now) c.args.at (plain_form made.form)) made.fixed (plain_fresh c.emit_missing.new.fresh))
+    (plain_code c.args.code.now) (plain_ty c.args.ty.now) c.args.at i (args_emitters k i (plain_args c.args.args.now)) (plain_fresh c.args.fresh.now) (inlined_at k c.args.function)
+    (callee_missing c.args.context.now.functions.now c.args.function c.if-number-context.true) c.emit_missing.ensures
+
+pub calling::emit_call-returns : goal.calling::emit_call-returns
+calling::emit_call-returns t c =
+    let k = callees_in c.args.context.now in
+    let i = instance_in c.args.context.now in
+    let fs = c.args.context.now.functions.now in
+    let n = c.args.function in
+    let within : n < length fs = omega arith in
+    let callee = get_or fs n c.index-context-number.result in
+    let before = inlined_all (take n fs) in
+    called c.emit_around.result
+    (λ (made : Formed). valued (plain_code c.emit_around.new.code) (an_expr (plain_ty c.args.ty.now) c.args.at (plain_form made.form)) made.fixed (plain_fresh c.emit_around.new.fresh))
+    (plain_code c.args.code.now) (plain_ty c.args.ty.now) c.args.at i (args_emitters k i (plain_args c.args.args.now)) (plain_fresh c.args.fresh.now) (inlined_at k n)
+    (inlined before (plain_function callee)) (instance c.next.result c.result_number.result c.args.fresh.now.names) (plain_fresh c.add_instance.new.fresh)
+    (callee_found fs n callee within (get_or_default fs n c.index-context-number.result callee within))
+    (stands_at before callee (plain_fresh c.args.fresh.now) c.next.result c.result_number.result c.args.fresh.now.names c.next.ensures c.result_number.ensures refl)
+    (c.in_ok-add_instance.ensures before) c.emit_around.ensures

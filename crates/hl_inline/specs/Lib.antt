@@ -5,5 +5,9 @@ pub mod FlatLane
 pub mod IndexedVariables
 pub mod Operands
 pub mod Early
+pub mod Marking
 pub mod Flattening
+pub mod Building
 pub mod Keeps
+pub mod HeldFlat
+pub mod Entering

@@ -1,0 +1,15 @@
+-- Truth values, and whether calls stand in lists of operands.
+use Rattle.std.proofs.Common.{◌≡◌, ◌∙◌, refl, ap, sym, ◌||◌, Bool, false, true, List, [], ◌∷◌, ◌++◌}
+use Rattle.hl_inline.specs.Flattening.{Emitter, any_calls}
+
+pub or-false : (b : Bool) → (b || false) ≡ b
+or-false true = refl
+or-false false = refl
+
+pub or-assoc : (a b c : Bool) → ((a || b) || c) ≡ (a || (b || c))
+or-assoc true b c = refl
+or-assoc false b c = refl
+
+pub any-append : (xs ys : List Emitter) → any_calls (xs ++ ys) ≡ (any_calls xs || any_calls ys)
+any-append [] ys = refl
+any-append (e ∷ xs) ys = ap (λ b. e.calls || b) (any-append xs ys) ∙ sym (or-assoc e.calls (any_calls xs) (any_calls ys))

@@ -1,0 +1,7 @@
+use Rattle.hl_inline.proofs.FlatPlain.{plain_flat_stmt-Run}
+use Rattle.hl_inline.proofs.LayingLemmas.{added}
+use Rattle.hl_inline.proofs.adding.add_run.Goals as goal
+
+pub returns : goal.returns
+returns c =
+    added c.add.result c.args.code.now c.add.new.code _ _ (plain_flat_stmt-Run c.args.value) c.add.ensures

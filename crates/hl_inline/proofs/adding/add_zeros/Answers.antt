@@ -1,0 +1,8 @@
+use Rattle.std.proofs.Common.{None}
+use Rattle.hl_inline.proofs.FlatPlain.{plain_flat_stmt-Local}
+use Rattle.hl_inline.proofs.LayingLemmas.{added}
+use Rattle.hl_inline.proofs.adding.add_zeros.Goals as goal
+
+pub returns : goal.returns
+returns c =
+    added c.add.result c.args.code.now c.add.new.code _ _ (plain_flat_stmt-Local c.args.variable None) c.add.ensures

@@ -1,0 +1,193 @@
+//! Sources whose programs without calls are known by hand.
+
+ghost use Rattle.std.specs.Prelude.{◌≤◌, List, length, ℕ};
+ghost use Rattle.hl_lexer.specs.Tokens.{IsTokenList, lexemes_of};
+ghost use Rattle.hl_parser.specs.Views.{plain_of};
+ghost use Rattle.hl_types.specs.Elaborating.{AreSpelling};
+
+use base_core::NoMemory;
+use hl_inline::{Flat, FlatStmt, inline};
+use hl_lexer::{Tokens, lex};
+use hl_meaning::{Expr, Form, Program, sizes};
+use hl_parser::{Tree, parse};
+use hl_types::elaborate;
+use std::alloc::Global;
+use std::test::Fail;
+
+/// The greatest number of bytes of groupshared variables.
+const MOST_SHARED_BYTES: u64 = 32768;
+
+/// What a program becomes, unless its groupshared variables are too large.
+fn without_calls(alloc: Global, program: &Program) -> Result<Option<Flat>, NoMemory> {
+    let sizes = sizes(alloc, program)?;
+    if sizes.shared_bytes > MOST_SHARED_BYTES {
+        return Ok(None);
+    }
+    let flat = inline(alloc, program)?;
+    Ok(Some(flat))
+}
+
+/// What a source becomes that has no fault.
+fn flat_of(alloc: Global, text: &[u8]) -> Result<Option<Flat>, NoMemory>
+    requires { length text.now ≤ 1048576 }
+{
+    match lex(alloc, text) {
+        Ok(tokens) => flat_of_tokens(alloc, &tokens),
+        Err(_fault) => Ok(None),
+    }
+}
+
+/// What the tokens of a text become.
+fn flat_of_tokens(alloc: Global, tokens: &Tokens) -> Result<Option<Flat>, NoMemory>
+    requires { (text : List ℕ) × IsTokenList text (lexemes_of tokens.now) tokens.now.end }
+{
+    match parse(alloc, tokens) {
+        Ok(tree) => flat_of_tree(alloc, &tree, tokens),
+        Err(_fault) => Ok(None),
+    }
+}
+
+/// What a tree of the tokens of a text becomes.
+fn flat_of_tree(alloc: Global, tree: &Tree, tokens: &Tokens) -> Result<Option<Flat>, NoMemory>
+    requires { AreSpelling (lexemes_of tokens.now) tokens.now.end (plain_of tree.now) }
+{
+    match elaborate(alloc, tree, tokens, b"main") {
+        Ok(program) => without_calls(alloc, &program),
+        Err(_fault) => Ok(None),
+    }
+}
+
+/// The statements of the entry's body.
+fn body_of(flat: &Flat) -> &[FlatStmt] {
+    match flat.body.as_slice() {
+        [FlatStmt::Named { name: 0, body }] => match body.get() {
+            FlatStmt::Block(stmts) => stmts.as_slice(),
+            _ => &[],
+        },
+        _ => &[],
+    }
+}
+
+/// Whether it sets a variable to what another one holds.
+fn copies(stmt: &FlatStmt) -> bool {
+    match stmt {
+        FlatStmt::Run(
+            Expr {
+                form: Form::Write { op: None, .. },
+                ..
+            },
+        ) => true,
+        _ => false,
+    }
+}
+
+#[test]
+fn each_parameter_of_a_call_is_a_variable(rt: HostRuntime) -> Result<(), Fail> {
+    let text =
+        b"RWByteAddressBuffer dst : register(u0);\nvoid f(inout uint a, inout uint b) { a = a + 1; b = b + 10; }\n[numthreads(1,1,1)] void main() { uint x = 5; f(x, x); dst.Store(0, x); }";
+    match flat_of(rt.alloc(), text)? {
+        Some(flat) => {
+            assert_eq!(rt; flat.variables.len(), 3);
+            match body_of(&flat) {
+                [
+                    FlatStmt::Local { variable: 0, .. },
+                    FlatStmt::Local { variable: 1, .. },
+                    FlatStmt::Local { variable: 2, .. },
+                    FlatStmt::Named { name: 1, .. },
+                    first,
+                    second,
+                    FlatStmt::Run(_),
+                ] => {
+                    assert!(rt; copies(first));
+                    assert!(rt; copies(second));
+                }
+                _ => assert!(rt; false),
+            }
+        }
+        None => assert!(rt; false),
+    }
+    Ok(())
+}
+
+#[test]
+fn a_function_that_is_called_twice_has_its_variables_twice(rt: HostRuntime) -> Result<(), Fail> {
+    let text =
+        b"RWByteAddressBuffer dst : register(u0);\nuint h(uint v) { uint w = v * 2; return w; }\n[numthreads(1,1,1)] void main() { uint x = h(1) + h(2); dst.Store(0, x); }";
+    match flat_of(rt.alloc(), text)? {
+        Some(flat) => {
+            assert_eq!(rt; flat.variables.len(), 7);
+            match body_of(&flat) {
+                [
+                    FlatStmt::Local { variable: 1, .. },
+                    FlatStmt::Named { name: 1, .. },
+                    FlatStmt::Local { variable: 4, .. },
+                    FlatStmt::Named { name: 2, .. },
+                    FlatStmt::Local { variable: 0, .. },
+                    FlatStmt::Run(_),
+                ] => {}
+                _ => assert!(rt; false),
+            }
+        }
+        None => assert!(rt; false),
+    }
+    Ok(())
+}
+
+#[test]
+fn a_call_in_the_condition_of_a_loop_stands_in_the_loop(rt: HostRuntime) -> Result<(), Fail> {
+    let text =
+        b"bool g(uint v) { return v < 3; }\n[numthreads(1,1,1)] void main() { uint x = 0; while (g(x)) x = x + 1; }";
+    match flat_of(rt.alloc(), text)? {
+        Some(flat) => {
+            assert_eq!(rt; flat.variables.len(), 3);
+            match turn_of(body_of(&flat)) {
+                [
+                    FlatStmt::Local { variable: 1, .. },
+                    FlatStmt::Named { name: 3, .. },
+                    FlatStmt::If { .. },
+                    FlatStmt::Named { name: 2, .. },
+                ] => {}
+                _ => assert!(rt; false),
+            }
+        }
+        None => assert!(rt; false),
+    }
+    Ok(())
+}
+
+/// The statements of a turn of a loop that stands behind a declaration.
+fn turn_of(stmts: &[FlatStmt]) -> &[FlatStmt] {
+    match stmts {
+        [FlatStmt::Local { .. }, FlatStmt::Named { name: 1, body }] => match body.get() {
+            FlatStmt::Loop(turn) => match turn.get() {
+                FlatStmt::Block(stmts) => stmts.as_slice(),
+                _ => &[],
+            },
+            _ => &[],
+        },
+        _ => &[],
+    }
+}
+
+#[test]
+fn a_call_in_an_argument_comes_before_the_call(rt: HostRuntime) -> Result<(), Fail> {
+    let text =
+        b"uint h(uint v) { return v * 2; }\n[numthreads(1,1,1)] void main() { uint x = h(h(1)); }";
+    match flat_of(rt.alloc(), text)? {
+        Some(flat) => {
+            assert_eq!(rt; flat.variables.len(), 5);
+            match body_of(&flat) {
+                [
+                    FlatStmt::Local { variable: 3, .. },
+                    FlatStmt::Named { name: 2, .. },
+                    FlatStmt::Local { variable: 1, .. },
+                    FlatStmt::Named { name: 1, .. },
+                    FlatStmt::Local { variable: 0, .. },
+                ] => {}
+                _ => assert!(rt; false),
+            }
+        }
+        None => assert!(rt; false),
+    }
+    Ok(())
+}

@@ -44,9 +44,9 @@ step further e es code values fresh = joined (settled (further || any_calls es) 
         with_operand values (emit_all further es) (operand_behind code x)
     joined x =
         ap (λ c. values_of c (values ++ x.value ∷ (emit_all further es x.fresh).values) (emit_all further es x.fresh).fresh)
-            (sym (append_assoc code x.code (emit_all further es x.fresh).code)) ∙
+        (sym (append_assoc code x.code (emit_all further es x.fresh).code)) ∙
         ap (λ vs. values_of ((code ++ x.code) ++ (emit_all further es x.fresh).code) vs (emit_all further es x.fresh).fresh)
-            (sym (append_assoc values (x.value ∷ []) (emit_all further es x.fresh).values))
+        (sym (append_assoc values (x.value ∷ []) (emit_all further es x.fresh).values))
 
 -- an operand that is emitted as asked
 pub next_operand : (further f : Bool) (e : Emitter) (es : List Emitter) (code : List FlatStmt) (values : List Expr) (fresh : Fresh) (o : Made Expr) →
@@ -64,17 +64,17 @@ no_operand further code values fresh =
 abbrev both_behind : (further : Bool) (front back : List Emitter) (code : List FlatStmt) (values : List Expr) → Fresh → Values
 both_behind further front back code values fresh =
     values_behind (code ++ (emit_all (further || any_calls back) front fresh).code) (values ++ (emit_all (further || any_calls back) front fresh).values)
-        (emit_all further back (emit_all (further || any_calls back) front fresh).fresh)
+    (emit_all further back (emit_all (further || any_calls back) front fresh).fresh)
 
 operand_joined : (further : Bool) (front back : List Emitter) (code : List FlatStmt) (values : List Expr) (x : Valued) →
     both_behind further front back (code ++ x.code) (values ++ x.value ∷ []) x.fresh ≡
     values_behind (code ++ (x.code ++ (emit_all (further || any_calls back) front x.fresh).code)) (values ++ x.value ∷ (emit_all (further || any_calls back) front x.fresh).values)
-        (emit_all further back (emit_all (further || any_calls back) front x.fresh).fresh)
+    (emit_all further back (emit_all (further || any_calls back) front x.fresh).fresh)
 operand_joined further front back code values x =
     ap (λ c. values_behind c ((values ++ x.value ∷ []) ++ (emit_all (further || any_calls back) front x.fresh).values)
-        (emit_all further back (emit_all (further || any_calls back) front x.fresh).fresh)) (append_assoc code x.code (emit_all (further || any_calls back) front x.fresh).code) ∙
+    (emit_all further back (emit_all (further || any_calls back) front x.fresh).fresh)) (append_assoc code x.code (emit_all (further || any_calls back) front x.fresh).code) ∙
     ap (λ vs. values_behind (code ++ (x.code ++ (emit_all (further || any_calls back) front x.fresh).code)) vs
-        (emit_all further back (emit_all (further || any_calls back) front x.fresh).fresh)) (append_assoc values (x.value ∷ []) (emit_all (further || any_calls back) front x.fresh).values)
+    (emit_all further back (emit_all (further || any_calls back) front x.fresh).fresh)) (append_assoc values (x.value ∷ []) (emit_all (further || any_calls back) front x.fresh).values)
 
 -- operands and others behind them
 pub next_operands : (further : Bool) (front back : List Emitter) (code : List FlatStmt) (values : List Expr) (fresh : Fresh) →
@@ -103,7 +103,7 @@ pub one : (further : Bool) (e : Emitter) (code : List FlatStmt) (fresh : Fresh) 
     operand_behind code (settled further (e.emit fresh)) ≡ o → made_behind code first_expr (emit_all further (e ∷ []) fresh) ≡ o
 one further e code fresh o done =
     ap (λ v. made v.code (first_expr v.values) v.fresh)
-        (next_operand further further e [] code [] fresh o (sym (or-false further)) done ∙ no_operand further o.code (o.value ∷ []) o.fresh)
+    (next_operand further further e [] code [] fresh o (sym (or-false further)) done ∙ no_operand further o.code (o.value ∷ []) o.fresh)
 
 -- no operand
 pub none : {A : Type 0} (further : Bool) (fill : List Expr → A) (code : List FlatStmt) (fresh : Fresh) →
@@ -119,9 +119,9 @@ pub pair : {A B C : Type 0} (fa : List Expr → A) (fb : List Expr → B) (g : A
 pair fa fb g fc further f front back code fresh a b fills is first second =
     ap (λ v. made v.code (fc v.values) v.fresh) (next_operands further front back code [] fresh) ∙
     (ap (λ value. made ((code ++ x.code) ++ (emit_all further back x.fresh).code) value (emit_all further back x.fresh).fresh)
-        (fills x.values (emit_all further back x.fresh).values (values_count (further || any_calls back) front fresh)) ∙
+    (fills x.values (emit_all further back x.fresh).values (values_count (further || any_calls back) front fresh)) ∙
     (ap (λ m. map_made (g m.value) (made_behind m.code fb (emit_all further back m.fresh)))
-        (ap (λ b. made_behind code fa (emit_all b front fresh)) (sym is) ∙ first) ∙
+    (ap (λ b. made_behind code fa (emit_all b front fresh)) (sym is) ∙ first) ∙
     ap (map_made (g a.value)) second))
   where
     x : Values

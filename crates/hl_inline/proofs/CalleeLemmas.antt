@@ -59,7 +59,7 @@ length_after before (f ∷ fs) =
 pub callee_missing : (fs : List held.FunctionDef) (n : ℕ) → length fs ≤ n → inlined_at (inlined_all fs) n ≡ nothing_inlined
 callee_missing fs n past =
     ap (λ o. unwrap_or o nothing_inlined)
-        (slice_get_past (inlined_all fs) n (omega (arith, length_after [] (map plain_function fs), length-map fs plain_function)))
+    (slice_get_past (inlined_all fs) n (omega (arith, length_after [] (map plain_function fs), length-map fs plain_function)))
 
 -- ---- calls
 

@@ -55,9 +55,9 @@ pub settled_as : (k : List Inlined) (i : Instance) (code code1 code2 : List Flat
     IfOk r (λ v. operand_behind code (settled further (emitted k i e fresh)) ≡ made code2 (plain_expr v) fresh2)
 settled_as k i code code1 code2 fresh fresh1 fresh2 further fixed e value r emitted_is settles =
     IfOk-weaker r (λ v. operand_behind [] (settled further (valued code1 value fixed fresh1)) ≡ made code2 (plain_expr v) fresh2)
-        (λ v. operand_behind code (settled further (emitted k i e fresh)) ≡ made code2 (plain_expr v) fresh2)
-        (λ v s. settled_behind further code (emitted k i e fresh) ∙ (ap (λ x. operand_behind [] (settled further x)) emitted_is ∙ s))
-        settles
+    (λ v. operand_behind code (settled further (emitted k i e fresh)) ≡ made code2 (plain_expr v) fresh2)
+    (λ v s. settled_behind further code (emitted k i e fresh) ∙ (ap (λ x. operand_behind [] (settled further x)) emitted_is ∙ s))
+    settles
 
 -- a call
 pub called_as : (k : List Inlined) (i : Instance) (code code' : List FlatStmt) (fresh fresh' : Fresh) (ty : Ty) (at function : ℕ) (args : Args) (r : Result Formed NoMemory) (g : Form) →
@@ -66,5 +66,5 @@ pub called_as : (k : List Inlined) (i : Instance) (code code' : List FlatStmt) (
     IfOk r (λ m. behind code ((form_emitter k i ty at g).emit fresh) ≡ valued code' (an_expr ty at (plain_form m.form)) m.fixed fresh')
 called_as k i code code' fresh fresh' ty at function args r g is done =
     IfOk-weaker r (λ m. behind code ((call i ty at (inlined_at k function) (args_emitters k i args)).emit fresh) ≡ valued code' (an_expr ty at (plain_form m.form)) m.fixed fresh')
-        (λ m. behind code ((form_emitter k i ty at g).emit fresh) ≡ valued code' (an_expr ty at (plain_form m.form)) m.fixed fresh')
-        (λ m e. ap (λ h. behind code ((form_emitter k i ty at h).emit fresh)) is ∙ e) done
+    (λ m. behind code ((form_emitter k i ty at g).emit fresh) ≡ valued code' (an_expr ty at (plain_form m.form)) m.fixed fresh')
+    (λ m e. ap (λ h. behind code ((form_emitter k i ty at h).emit fresh)) is ∙ e) done

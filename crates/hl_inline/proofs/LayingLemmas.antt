@@ -88,7 +88,7 @@ pub chosen : (code : List FlatStmt) (x : Valued) (consequent alternative : Fresh
     → laid_with code (choice_of x (consequent x.fresh).code (alternative (consequent x.fresh).fresh).code (alternative (consequent x.fresh).fresh).fresh) ≡ laid_to all h
 chosen code x consequent alternative after value fixed f one g two h all emitted first second pushed =
     ap (λ c. laid_to c (alternative (consequent x.fresh).fresh).fresh)
-        (sym (append_assoc code x.code (flat_if x.value (as_one (consequent x.fresh).code) (as_alternative (alternative (consequent x.fresh).fresh).code) ∷ []))) ∙
+    (sym (append_assoc code x.code (flat_if x.value (as_one (consequent x.fresh).code) (as_alternative (alternative (consequent x.fresh).fresh).code) ∷ []))) ∙
     (ap (λ (b : Valued). choice_laid alternative b.code b.value (consequent b.fresh)) emitted ∙
     (ap (λ (y : Laid). choice_laid alternative after value y) first ∙
     (ap (λ (n : Laid). laid_to (after ++ flat_if value (as_one one) (as_alternative n.code) ∷ []) n.fresh) second ∙
@@ -165,9 +165,9 @@ next_passed i at number (value_argument e) args p parameters code copies fresh y
     parts_then code copies ((e.emit fresh).code ++ flat_local number (Some (e.emit fresh).value) ∷ []) [] (e.emit fresh).fresh (pass_all i at (suc number) args parameters) y done
 next_passed i at number (place_argument place indexes) args p parameters code copies fresh y done =
     parts_then code copies
-        ((emit_all true indexes fresh).code ++ flat_local number (start_value p.copying (filled_place i.first place (emit_all true indexes fresh).values) at) ∷ [])
-        (copy_back (filled_place i.first place (emit_all true indexes fresh).values) at number ∷ [])
-        (emit_all true indexes fresh).fresh (pass_all i at (suc number) args parameters) y done
+    ((emit_all true indexes fresh).code ++ flat_local number (start_value p.copying (filled_place i.first place (emit_all true indexes fresh).values) at) ∷ [])
+    (copy_back (filled_place i.first place (emit_all true indexes fresh).values) at number ∷ [])
+    (emit_all true indexes fresh).fresh (pass_all i at (suc number) args parameters) y done
 
 -- no more arguments, or no more parameters
 pub none_passed : (i : Instance) (at number : ℕ) (args : List Argument) (parameters : List Parameter) (code copies : List FlatStmt) (fresh : Fresh)
@@ -217,8 +217,8 @@ module _ (k : List Inlined) (i : Instance) (at number : ℕ) (code copies : List
   place-passed (Ok u) place other after to f all back is same done h w =
       ap (λ a. passed_behind code copies (pass_all i at number (arg_emitter k i a ∷ []) (p ∷ []) fresh)) is ∙
       place-done code copies at number p.copying other
-          (made (emit_all true (place_emitters k i place) fresh).code (filled_place i.first place (emit_all true (place_emitters k i place) fresh).values) (emit_all true (place_emitters k i place) fresh).fresh)
-          after to f all back same done h w
+      (made (emit_all true (place_emitters k i place) fresh).code (filled_place i.first place (emit_all true (place_emitters k i place) fresh).values) (emit_all true (place_emitters k i place) fresh).fresh)
+      after to f all back same done h w
   place-passed (Err x) place other after to f all back is same done h w = h
 
 -- ---- arguments in order

@@ -34,7 +34,7 @@ emitting::emit_operand-returns t c =
     let k = callees_in c.args.context.now in
     let i = instance_in c.args.context.now in
     settled_as k i (plain_code c.args.code.now) (plain_code c.emit.new.code) (plain_code c.settle.new.code) (plain_fresh c.args.fresh.now) (plain_fresh c.emit.new.fresh) (plain_fresh c.settle.new.fresh)
-        c.args.further c.in_ok-emitted.emitted.fixed (plain_expr c.args.expr.now) (plain_expr c.in_ok-emitted.emitted.value) c.settle.result c.in_ok-emitted.ensures c.settle.ensures
+    c.args.further c.in_ok-emitted.emitted.fixed (plain_expr c.args.expr.now) (plain_expr c.in_ok-emitted.emitted.value) c.settle.result c.in_ok-emitted.ensures c.settle.ensures
 
 pub emitting::emit_boxed-returns : goal.emitting::emit_boxed-returns
 emitting::emit_boxed-returns t c =
@@ -55,189 +55,189 @@ emitting::emit_form-returns-in_ok-place-in-Read t c =
     let k = callees_in c.args.context.now in
     let i = instance_in c.args.context.now in
     formed k i (plain_code c.args.code.now) (plain_code c.emit_place.new.code) (plain_fresh c.args.fresh.now) (plain_fresh c.emit_place.new.fresh) (plain_ty c.args.ty.now) c.args.at c.open.result
-        (read_form (plain_location c.in-Read.place)) (plain_form c.args.form.now) (read_form (plain_location c.in_ok-place-in-Read.place)) false
-        (ap plain_form c.in-Read.is ∙ plain_form-Read _)
-        (read_done k i (plain_code c.args.code.now) (plain_fresh c.args.fresh.now) (plain_ty c.args.ty.now) c.args.at (plain_location c.in-Read.place) _ c.in_ok-place-in-Read.ensures)
-        (ap plain_form c.open.ensures.form ∙ plain_form-Read _) c.open.ensures.fixed
+    (read_form (plain_location c.in-Read.place)) (plain_form c.args.form.now) (read_form (plain_location c.in_ok-place-in-Read.place)) false
+    (ap plain_form c.in-Read.is ∙ plain_form-Read _)
+    (read_done k i (plain_code c.args.code.now) (plain_fresh c.args.fresh.now) (plain_ty c.args.ty.now) c.args.at (plain_location c.in-Read.place) _ c.in_ok-place-in-Read.ensures)
+    (ap plain_form c.open.ensures.form ∙ plain_form-Read _) c.open.ensures.fixed
 
 pub emitting::emit_form-returns-in-Write : goal.emitting::emit_form-returns-in-Write
 emitting::emit_form-returns-in-Write t c =
     let k = callees_in c.args.context.now in
     let i = instance_in c.args.context.now in
     emitted_as k i (plain_code c.args.code.now) (plain_code c.emit_write.new.code) (plain_fresh c.args.fresh.now) (plain_fresh c.emit_write.new.fresh) (plain_ty c.args.ty.now) c.args.at c.emit_write.result _ (plain_form c.args.form.now)
-        (ap plain_form c.in-Write.is ∙ (plain_form-Write _ _ _ _ _ ∙
-        ap (λ v. write_form (plain_location c.in-Write.to) c.in-Write.op (plain_ty c.in-Write.common) (plain_expr v) c.in-Write.old) (sym c.get.ensures)))
-        c.emit_write.ensures
+    (ap plain_form c.in-Write.is ∙ (plain_form-Write _ _ _ _ _ ∙
+    ap (λ v. write_form (plain_location c.in-Write.to) c.in-Write.op (plain_ty c.in-Write.common) (plain_expr v) c.in-Write.old) (sym c.get.ensures)))
+    c.emit_write.ensures
 
 pub emitting::emit_form-returns-in_ok-value-in-Convert : goal.emitting::emit_form-returns-in_ok-value-in-Convert
 emitting::emit_form-returns-in_ok-value-in-Convert t c =
     let k = callees_in c.args.context.now in
     let i = instance_in c.args.context.now in
     formed k i (plain_code c.args.code.now) (plain_code c.emit_boxed.new.code) (plain_fresh c.args.fresh.now) (plain_fresh c.emit_boxed.new.fresh) (plain_ty c.args.ty.now) c.args.at c.open-in-Convert.result
-        (convert_form (plain_expr c.get-in-Convert.result.now)) (plain_form c.args.form.now) (convert_form (plain_expr c.in_ok-value-in-Convert.value)) false
-        (ap plain_form c.in-Convert.is ∙ (plain_form-Convert _ ∙ ap (λ v. convert_form (plain_expr v)) (sym c.get-in-Convert.ensures)))
-        (convert_done k i (plain_code c.args.code.now) (plain_fresh c.args.fresh.now) (plain_ty c.args.ty.now) c.args.at (plain_expr c.get-in-Convert.result.now) _ c.in_ok-value-in-Convert.ensures)
-        (ap plain_form c.open-in-Convert.ensures.form ∙ plain_form-Convert _) c.open-in-Convert.ensures.fixed
+    (convert_form (plain_expr c.get-in-Convert.result.now)) (plain_form c.args.form.now) (convert_form (plain_expr c.in_ok-value-in-Convert.value)) false
+    (ap plain_form c.in-Convert.is ∙ (plain_form-Convert _ ∙ ap (λ v. convert_form (plain_expr v)) (sym c.get-in-Convert.ensures)))
+    (convert_done k i (plain_code c.args.code.now) (plain_fresh c.args.fresh.now) (plain_ty c.args.ty.now) c.args.at (plain_expr c.get-in-Convert.result.now) _ c.in_ok-value-in-Convert.ensures)
+    (ap plain_form c.open-in-Convert.ensures.form ∙ plain_form-Convert _) c.open-in-Convert.ensures.fixed
 
 pub emitting::emit_form-returns-in_ok-value-in-Unary : goal.emitting::emit_form-returns-in_ok-value-in-Unary
 emitting::emit_form-returns-in_ok-value-in-Unary t c =
     let k = callees_in c.args.context.now in
     let i = instance_in c.args.context.now in
     formed k i (plain_code c.args.code.now) (plain_code c.emit_boxed-in-Unary.new.code) (plain_fresh c.args.fresh.now) (plain_fresh c.emit_boxed-in-Unary.new.fresh) (plain_ty c.args.ty.now) c.args.at c.open-in-Unary.result
-        (unary_form c.in-Unary.op (plain_expr c.get-in-Unary.result.now)) (plain_form c.args.form.now) (unary_form c.in-Unary.op (plain_expr c.in_ok-value-in-Unary.value)) false
-        (ap plain_form c.in-Unary.is ∙ (plain_form-Unary _ _ ∙ ap (λ v. unary_form c.in-Unary.op (plain_expr v)) (sym c.get-in-Unary.ensures)))
-        (unary_done k i (plain_code c.args.code.now) (plain_fresh c.args.fresh.now) (plain_ty c.args.ty.now) c.args.at c.in-Unary.op (plain_expr c.get-in-Unary.result.now) _ c.in_ok-value-in-Unary.ensures)
-        (ap plain_form c.open-in-Unary.ensures.form ∙ plain_form-Unary _ _) c.open-in-Unary.ensures.fixed
+    (unary_form c.in-Unary.op (plain_expr c.get-in-Unary.result.now)) (plain_form c.args.form.now) (unary_form c.in-Unary.op (plain_expr c.in_ok-value-in-Unary.value)) false
+    (ap plain_form c.in-Unary.is ∙ (plain_form-Unary _ _ ∙ ap (λ v. unary_form c.in-Unary.op (plain_expr v)) (sym c.get-in-Unary.ensures)))
+    (unary_done k i (plain_code c.args.code.now) (plain_fresh c.args.fresh.now) (plain_ty c.args.ty.now) c.args.at c.in-Unary.op (plain_expr c.get-in-Unary.result.now) _ c.in_ok-value-in-Unary.ensures)
+    (ap plain_form c.open-in-Unary.ensures.form ∙ plain_form-Unary _ _) c.open-in-Unary.ensures.fixed
 
 pub emitting::emit_form-returns-in-Binary : goal.emitting::emit_form-returns-in-Binary
 emitting::emit_form-returns-in-Binary t c =
     let k = callees_in c.args.context.now in
     let i = instance_in c.args.context.now in
     emitted_as k i (plain_code c.args.code.now) (plain_code c.emit_binary.new.code) (plain_fresh c.args.fresh.now) (plain_fresh c.emit_binary.new.fresh) (plain_ty c.args.ty.now) c.args.at c.emit_binary.result _ (plain_form c.args.form.now)
-        (ap plain_form c.in-Binary.is ∙ (plain_form-Binary _ _ _ ∙
-        (ap (λ v. binary_form c.in-Binary.op (plain_expr v) (plain_expr c.in-Binary.right)) (sym c.get-in-Binary.ensures) ∙
-        ap (λ v. binary_form c.in-Binary.op (plain_expr c.get-in-Binary.result.now) (plain_expr v)) (sym c.get-in-Binary-2.ensures))))
-        c.emit_binary.ensures
+    (ap plain_form c.in-Binary.is ∙ (plain_form-Binary _ _ _ ∙
+    (ap (λ v. binary_form c.in-Binary.op (plain_expr v) (plain_expr c.in-Binary.right)) (sym c.get-in-Binary.ensures) ∙
+    ap (λ v. binary_form c.in-Binary.op (plain_expr c.get-in-Binary.result.now) (plain_expr v)) (sym c.get-in-Binary-2.ensures))))
+    c.emit_binary.ensures
 
 pub emitting::emit_form-returns-in-Choose : goal.emitting::emit_form-returns-in-Choose
 emitting::emit_form-returns-in-Choose t c =
     let k = callees_in c.args.context.now in
     let i = instance_in c.args.context.now in
     emitted_as k i (plain_code c.args.code.now) (plain_code c.emit_choice.new.code) (plain_fresh c.args.fresh.now) (plain_fresh c.emit_choice.new.fresh) (plain_ty c.args.ty.now) c.args.at c.emit_choice.result _ (plain_form c.args.form.now)
-        (ap plain_form c.in-Choose.is ∙ (plain_form-Choose _ _ _ ∙
-        (ap (λ v. choose_form (plain_expr v) (plain_expr c.in-Choose.yes) (plain_expr c.in-Choose.no)) (sym c.get-in-Choose.ensures) ∙
-        (ap (λ v. choose_form (plain_expr c.get-in-Choose.result.now) (plain_expr v) (plain_expr c.in-Choose.no)) (sym c.get-in-Choose-2.ensures) ∙
-        ap (λ v. choose_form (plain_expr c.get-in-Choose.result.now) (plain_expr c.get-in-Choose-2.result.now) (plain_expr v)) (sym c.get-in-Choose-3.ensures)))))
-        c.emit_choice.ensures
+    (ap plain_form c.in-Choose.is ∙ (plain_form-Choose _ _ _ ∙
+    (ap (λ v. choose_form (plain_expr v) (plain_expr c.in-Choose.yes) (plain_expr c.in-Choose.no)) (sym c.get-in-Choose.ensures) ∙
+    (ap (λ v. choose_form (plain_expr c.get-in-Choose.result.now) (plain_expr v) (plain_expr c.in-Choose.no)) (sym c.get-in-Choose-2.ensures) ∙
+    ap (λ v. choose_form (plain_expr c.get-in-Choose.result.now) (plain_expr c.get-in-Choose-2.result.now) (plain_expr v)) (sym c.get-in-Choose-3.ensures)))))
+    c.emit_choice.ensures
 
 pub emitting::emit_form-returns-in_ok-parts-in-Build : goal.emitting::emit_form-returns-in_ok-parts-in-Build
 emitting::emit_form-returns-in_ok-parts-in-Build t c =
     let k = callees_in c.args.context.now in
     let i = instance_in c.args.context.now in
     formed k i (plain_code c.args.code.now) (plain_code c.emit_exprs.new.code) (plain_fresh c.args.fresh.now) (plain_fresh c.emit_exprs.new.fresh) (plain_ty c.args.ty.now) c.args.at c.open-in-Build.result
-        (build_form (plain_exprs c.in-Build.parts)) (plain_form c.args.form.now) (build_form (plain_exprs c.in_ok-parts-in-Build.parts)) false
-        (ap plain_form c.in-Build.is ∙ plain_form-Build _)
-        (build_done k i (plain_code c.args.code.now) (plain_fresh c.args.fresh.now) (plain_ty c.args.ty.now) c.args.at (plain_exprs c.in-Build.parts) _ c.in_ok-parts-in-Build.ensures)
-        (ap plain_form c.open-in-Build.ensures.form ∙ plain_form-Build _) c.open-in-Build.ensures.fixed
+    (build_form (plain_exprs c.in-Build.parts)) (plain_form c.args.form.now) (build_form (plain_exprs c.in_ok-parts-in-Build.parts)) false
+    (ap plain_form c.in-Build.is ∙ plain_form-Build _)
+    (build_done k i (plain_code c.args.code.now) (plain_fresh c.args.fresh.now) (plain_ty c.args.ty.now) c.args.at (plain_exprs c.in-Build.parts) _ c.in_ok-parts-in-Build.ensures)
+    (ap plain_form c.open-in-Build.ensures.form ∙ plain_form-Build _) c.open-in-Build.ensures.fixed
 
 pub emitting::emit_form-returns-in_ok-parts-in-Pick : goal.emitting::emit_form-returns-in_ok-parts-in-Pick
 emitting::emit_form-returns-in_ok-parts-in-Pick t c =
     let k = callees_in c.args.context.now in
     let i = instance_in c.args.context.now in
     formed k i (plain_code c.args.code.now) (plain_code c.emit_boxed-in-Pick.new.code) (plain_fresh c.args.fresh.now) (plain_fresh c.emit_boxed-in-Pick.new.fresh) (plain_ty c.args.ty.now) c.args.at c.open-in-Pick.result
-        (pick_form (plain_expr c.get-in-Pick.result.now) (plain_parts c.in-Pick.parts)) (plain_form c.args.form.now) (pick_form (plain_expr c.in_ok-value-in-Pick.value) (plain_parts c.in-Pick.parts)) false
-        (ap plain_form c.in-Pick.is ∙ (plain_form-Pick _ _ ∙ ap (λ v. pick_form (plain_expr v) (plain_parts c.in-Pick.parts)) (sym c.get-in-Pick.ensures)))
-        (pick_done k i (plain_code c.args.code.now) (plain_fresh c.args.fresh.now) (plain_ty c.args.ty.now) c.args.at (plain_expr c.get-in-Pick.result.now) (plain_parts c.in-Pick.parts) _ c.in_ok-value-in-Pick.ensures)
-        (ap plain_form c.open-in-Pick.ensures.form ∙ (plain_form-Pick _ _ ∙ ap (pick_form (plain_expr c.in_ok-value-in-Pick.value)) c.in_ok-parts-in-Pick.ensures)) c.open-in-Pick.ensures.fixed
+    (pick_form (plain_expr c.get-in-Pick.result.now) (plain_parts c.in-Pick.parts)) (plain_form c.args.form.now) (pick_form (plain_expr c.in_ok-value-in-Pick.value) (plain_parts c.in-Pick.parts)) false
+    (ap plain_form c.in-Pick.is ∙ (plain_form-Pick _ _ ∙ ap (λ v. pick_form (plain_expr v) (plain_parts c.in-Pick.parts)) (sym c.get-in-Pick.ensures)))
+    (pick_done k i (plain_code c.args.code.now) (plain_fresh c.args.fresh.now) (plain_ty c.args.ty.now) c.args.at (plain_expr c.get-in-Pick.result.now) (plain_parts c.in-Pick.parts) _ c.in_ok-value-in-Pick.ensures)
+    (ap plain_form c.open-in-Pick.ensures.form ∙ (plain_form-Pick _ _ ∙ ap (pick_form (plain_expr c.in_ok-value-in-Pick.value)) c.in_ok-parts-in-Pick.ensures)) c.open-in-Pick.ensures.fixed
 
 pub emitting::emit_form-returns-in-Call : goal.emitting::emit_form-returns-in-Call
 emitting::emit_form-returns-in-Call t c =
     let k = callees_in c.args.context.now in
     let i = instance_in c.args.context.now in
     called_as k i (plain_code c.args.code.now) (plain_code c.emit_call.new.code) (plain_fresh c.args.fresh.now) (plain_fresh c.emit_call.new.fresh) (plain_ty c.args.ty.now) c.args.at c.in-Call.function
-        (plain_args c.as_slice.result.now) c.emit_call.result (plain_form c.args.form.now)
-        (ap plain_form c.in-Call.is ∙ (plain_form-Call _ _ ∙ ap (λ l. call_form c.in-Call.function (plain_args l)) (sym c.as_slice.ensures)))
-        c.emit_call.ensures
+    (plain_args c.as_slice.result.now) c.emit_call.result (plain_form c.args.form.now)
+    (ap plain_form c.in-Call.is ∙ (plain_form-Call _ _ ∙ ap (λ l. call_form c.in-Call.function (plain_args l)) (sym c.as_slice.ensures)))
+    c.emit_call.ensures
 
 pub emitting::emit_form-returns-in_ok-args-in-Intrinsic : goal.emitting::emit_form-returns-in_ok-args-in-Intrinsic
 emitting::emit_form-returns-in_ok-args-in-Intrinsic t c =
     let k = callees_in c.args.context.now in
     let i = instance_in c.args.context.now in
     formed k i (plain_code c.args.code.now) (plain_code c.emit_exprs-in-Intrinsic.new.code) (plain_fresh c.args.fresh.now) (plain_fresh c.emit_exprs-in-Intrinsic.new.fresh) (plain_ty c.args.ty.now) c.args.at c.open-in-Intrinsic.result
-        (intrinsic_form c.in-Intrinsic.number (plain_exprs c.in-Intrinsic.args)) (plain_form c.args.form.now) (intrinsic_form c.in-Intrinsic.number (plain_exprs c.in_ok-args-in-Intrinsic.args)) false
-        (ap plain_form c.in-Intrinsic.is ∙ plain_form-Intrinsic _ _)
-        (intrinsic_done k i (plain_code c.args.code.now) (plain_fresh c.args.fresh.now) (plain_ty c.args.ty.now) c.args.at c.in-Intrinsic.number (plain_exprs c.in-Intrinsic.args) _ c.in_ok-args-in-Intrinsic.ensures)
-        (ap plain_form c.open-in-Intrinsic.ensures.form ∙ plain_form-Intrinsic _ _) c.open-in-Intrinsic.ensures.fixed
+    (intrinsic_form c.in-Intrinsic.number (plain_exprs c.in-Intrinsic.args)) (plain_form c.args.form.now) (intrinsic_form c.in-Intrinsic.number (plain_exprs c.in_ok-args-in-Intrinsic.args)) false
+    (ap plain_form c.in-Intrinsic.is ∙ plain_form-Intrinsic _ _)
+    (intrinsic_done k i (plain_code c.args.code.now) (plain_fresh c.args.fresh.now) (plain_ty c.args.ty.now) c.args.at c.in-Intrinsic.number (plain_exprs c.in-Intrinsic.args) _ c.in_ok-args-in-Intrinsic.ensures)
+    (ap plain_form c.open-in-Intrinsic.ensures.form ∙ plain_form-Intrinsic _ _) c.open-in-Intrinsic.ensures.fixed
 
 pub emitting::emit_form-returns-in-Method : goal.emitting::emit_form-returns-in-Method
 emitting::emit_form-returns-in-Method t c =
     let k = callees_in c.args.context.now in
     let i = instance_in c.args.context.now in
     emitted_as k i (plain_code c.args.code.now) (plain_code c.emit_method.new.code) (plain_fresh c.args.fresh.now) (plain_fresh c.emit_method.new.fresh) (plain_ty c.args.ty.now) c.args.at c.emit_method.result _ (plain_form c.args.form.now)
-        (ap plain_form c.in-Method.is ∙ (plain_form-Method _ _ _ _ ∙
-        ap (λ v. method_form c.in-Method.resource c.in-Method.count (plain_expr v) (plain_maybe_expr c.in-Method.value)) (sym c.get-in-Method.ensures)))
-        c.emit_method.ensures
+    (ap plain_form c.in-Method.is ∙ (plain_form-Method _ _ _ _ ∙
+    ap (λ v. method_form c.in-Method.resource c.in-Method.count (plain_expr v) (plain_maybe_expr c.in-Method.value)) (sym c.get-in-Method.ensures)))
+    c.emit_method.ensures
 
 pub emitting::emit_form-returns-in-Atomic : goal.emitting::emit_form-returns-in-Atomic
 emitting::emit_form-returns-in-Atomic t c =
     let k = callees_in c.args.context.now in
     let i = instance_in c.args.context.now in
     emitted_as k i (plain_code c.args.code.now) (plain_code c.emit_atomic.new.code) (plain_fresh c.args.fresh.now) (plain_fresh c.emit_atomic.new.fresh) (plain_ty c.args.ty.now) c.args.at c.emit_atomic.result _ (plain_form c.args.form.now)
-        (ap plain_form c.in-Atomic.is ∙ (plain_form-Atomic _ _ _ _ _ ∙
-        ap (λ v. atomic_form (plain_target c.in-Atomic.target) c.in-Atomic.kind (plain_maybe_expr c.in-Atomic.compare) (plain_expr v) (plain_maybe_location c.in-Atomic.original)) (sym c.get-in-Atomic.ensures)))
-        c.emit_atomic.ensures
+    (ap plain_form c.in-Atomic.is ∙ (plain_form-Atomic _ _ _ _ _ ∙
+    ap (λ v. atomic_form (plain_target c.in-Atomic.target) c.in-Atomic.kind (plain_maybe_expr c.in-Atomic.compare) (plain_expr v) (plain_maybe_location c.in-Atomic.original)) (sym c.get-in-Atomic.ensures)))
+    c.emit_atomic.ensures
 
 pub emitting::emit_write-returns : goal.emitting::emit_write-returns
 emitting::emit_write-returns t c ty at =
     let k = callees_in c.args.context.now in
     let i = instance_in c.args.context.now in
     formed k i (plain_code c.args.code.now) (plain_code c.emit_boxed.new.code) (plain_fresh c.args.fresh.now) (plain_fresh c.emit_boxed.new.fresh) ty at c.open.result
-        (write_form (plain_location c.args.to.now) c.args.op (plain_ty c.args.common.now) (plain_expr c.args.value.now) c.args.old)
-        (write_form (plain_location c.args.to.now) c.args.op (plain_ty c.args.common.now) (plain_expr c.args.value.now) c.args.old)
-        (write_form (plain_location c.in_ok-to.to) c.args.op (plain_ty c.args.common.now) (plain_expr c.in_ok-value.value) c.args.old) false refl
-        (write_done k i (plain_code c.args.code.now) (plain_fresh c.args.fresh.now) ty at (plain_location c.args.to.now) c.args.op (plain_ty c.args.common.now) (plain_expr c.args.value.now) c.args.old c.holds_call.result
-            (made (plain_code c.emit_place.new.code) (plain_location c.in_ok-to.to) (plain_fresh c.emit_place.new.fresh)) (made (plain_code c.emit_boxed.new.code) (plain_expr c.in_ok-value.value) (plain_fresh c.emit_boxed.new.fresh))
-            (c.holds_call.ensures k i) c.in_ok-to.ensures c.in_ok-value.ensures)
-        (ap plain_form c.open.ensures.form ∙ (plain_form-Write _ _ _ _ _ ∙ ap (λ t. write_form (plain_location c.in_ok-to.to) c.args.op t (plain_expr c.in_ok-value.value) c.args.old) c.in_ok-common.ensures))
-        c.open.ensures.fixed
+    (write_form (plain_location c.args.to.now) c.args.op (plain_ty c.args.common.now) (plain_expr c.args.value.now) c.args.old)
+    (write_form (plain_location c.args.to.now) c.args.op (plain_ty c.args.common.now) (plain_expr c.args.value.now) c.args.old)
+    (write_form (plain_location c.in_ok-to.to) c.args.op (plain_ty c.args.common.now) (plain_expr c.in_ok-value.value) c.args.old) false refl
+    (write_done k i (plain_code c.args.code.now) (plain_fresh c.args.fresh.now) ty at (plain_location c.args.to.now) c.args.op (plain_ty c.args.common.now) (plain_expr c.args.value.now) c.args.old c.holds_call.result
+    (made (plain_code c.emit_place.new.code) (plain_location c.in_ok-to.to) (plain_fresh c.emit_place.new.fresh)) (made (plain_code c.emit_boxed.new.code) (plain_expr c.in_ok-value.value) (plain_fresh c.emit_boxed.new.fresh))
+    (c.holds_call.ensures k i) c.in_ok-to.ensures c.in_ok-value.ensures)
+    (ap plain_form c.open.ensures.form ∙ (plain_form-Write _ _ _ _ _ ∙ ap (λ t. write_form (plain_location c.in_ok-to.to) c.args.op t (plain_expr c.in_ok-value.value) c.args.old) c.in_ok-common.ensures))
+    c.open.ensures.fixed
 
 pub emitting::emit_binary-returns : goal.emitting::emit_binary-returns
 emitting::emit_binary-returns t c ty at =
     let k = callees_in c.args.context.now in
     let i = instance_in c.args.context.now in
     formed k i (plain_code c.args.code.now) (plain_code c.emit_boxed-2.new.code) (plain_fresh c.args.fresh.now) (plain_fresh c.emit_boxed-2.new.fresh) ty at c.open.result
-        (binary_form c.args.op (plain_expr c.args.left.now) (plain_expr c.args.right.now))
-        (binary_form c.args.op (plain_expr c.args.left.now) (plain_expr c.args.right.now))
-        (binary_form c.args.op (plain_expr c.in_ok-left.left) (plain_expr c.in_ok-right.right)) false refl
-        (binary_done k i (plain_code c.args.code.now) (plain_fresh c.args.fresh.now) ty at c.args.op (plain_expr c.args.left.now) (plain_expr c.args.right.now) c.holds_call.result
-            (made (plain_code c.emit_boxed.new.code) (plain_expr c.in_ok-left.left) (plain_fresh c.emit_boxed.new.fresh)) (made (plain_code c.emit_boxed-2.new.code) (plain_expr c.in_ok-right.right) (plain_fresh c.emit_boxed-2.new.fresh))
-            (c.holds_call.ensures k i) c.in_ok-left.ensures c.in_ok-right.ensures)
-        (ap plain_form c.open.ensures.form ∙ plain_form-Binary _ _ _) c.open.ensures.fixed
+    (binary_form c.args.op (plain_expr c.args.left.now) (plain_expr c.args.right.now))
+    (binary_form c.args.op (plain_expr c.args.left.now) (plain_expr c.args.right.now))
+    (binary_form c.args.op (plain_expr c.in_ok-left.left) (plain_expr c.in_ok-right.right)) false refl
+    (binary_done k i (plain_code c.args.code.now) (plain_fresh c.args.fresh.now) ty at c.args.op (plain_expr c.args.left.now) (plain_expr c.args.right.now) c.holds_call.result
+    (made (plain_code c.emit_boxed.new.code) (plain_expr c.in_ok-left.left) (plain_fresh c.emit_boxed.new.fresh)) (made (plain_code c.emit_boxed-2.new.code) (plain_expr c.in_ok-right.right) (plain_fresh c.emit_boxed-2.new.fresh))
+    (c.holds_call.ensures k i) c.in_ok-left.ensures c.in_ok-right.ensures)
+    (ap plain_form c.open.ensures.form ∙ plain_form-Binary _ _ _) c.open.ensures.fixed
 
 pub emitting::emit_choice-returns : goal.emitting::emit_choice-returns
 emitting::emit_choice-returns t c ty at =
     let k = callees_in c.args.context.now in
     let i = instance_in c.args.context.now in
     formed k i (plain_code c.args.code.now) (plain_code c.emit_boxed-3.new.code) (plain_fresh c.args.fresh.now) (plain_fresh c.emit_boxed-3.new.fresh) ty at c.open.result
-        (choose_form (plain_expr c.args.cond.now) (plain_expr c.args.consequent.now) (plain_expr c.args.alternative.now))
-        (choose_form (plain_expr c.args.cond.now) (plain_expr c.args.consequent.now) (plain_expr c.args.alternative.now))
-        (choose_form (plain_expr c.in_ok-cond.cond) (plain_expr c.in_ok-yes.yes) (plain_expr c.in_ok-no.no)) false refl
-        (choose_done k i (plain_code c.args.code.now) (plain_fresh c.args.fresh.now) ty at (plain_expr c.args.cond.now) (plain_expr c.args.consequent.now) (plain_expr c.args.alternative.now) c.either-behind_cond.result c.holds_call-behind.result
-            (made (plain_code c.emit_boxed.new.code) (plain_expr c.in_ok-cond.cond) (plain_fresh c.emit_boxed.new.fresh)) (made (plain_code c.emit_boxed-2.new.code) (plain_expr c.in_ok-yes.yes) (plain_fresh c.emit_boxed-2.new.fresh))
-            (made (plain_code c.emit_boxed-3.new.code) (plain_expr c.in_ok-no.no) (plain_fresh c.emit_boxed-3.new.fresh))
-            (c.holds_call-behind.ensures k i) (c.either-behind_cond.ensures ∙ ap (λ b. b || c.holds_call-behind.result) (c.holds_call.ensures k i)) c.in_ok-cond.ensures c.in_ok-yes.ensures c.in_ok-no.ensures)
-        (ap plain_form c.open.ensures.form ∙ plain_form-Choose _ _ _) c.open.ensures.fixed
+    (choose_form (plain_expr c.args.cond.now) (plain_expr c.args.consequent.now) (plain_expr c.args.alternative.now))
+    (choose_form (plain_expr c.args.cond.now) (plain_expr c.args.consequent.now) (plain_expr c.args.alternative.now))
+    (choose_form (plain_expr c.in_ok-cond.cond) (plain_expr c.in_ok-yes.yes) (plain_expr c.in_ok-no.no)) false refl
+    (choose_done k i (plain_code c.args.code.now) (plain_fresh c.args.fresh.now) ty at (plain_expr c.args.cond.now) (plain_expr c.args.consequent.now) (plain_expr c.args.alternative.now) c.either-behind_cond.result c.holds_call-behind.result
+    (made (plain_code c.emit_boxed.new.code) (plain_expr c.in_ok-cond.cond) (plain_fresh c.emit_boxed.new.fresh)) (made (plain_code c.emit_boxed-2.new.code) (plain_expr c.in_ok-yes.yes) (plain_fresh c.emit_boxed-2.new.fresh))
+    (made (plain_code c.emit_boxed-3.new.code) (plain_expr c.in_ok-no.no) (plain_fresh c.emit_boxed-3.new.fresh))
+    (c.holds_call-behind.ensures k i) (c.either-behind_cond.ensures ∙ ap (λ b. b || c.holds_call-behind.result) (c.holds_call.ensures k i)) c.in_ok-cond.ensures c.in_ok-yes.ensures c.in_ok-no.ensures)
+    (ap plain_form c.open.ensures.form ∙ plain_form-Choose _ _ _) c.open.ensures.fixed
 
 pub emitting::emit_method-returns : goal.emitting::emit_method-returns
 emitting::emit_method-returns t c ty at =
     let k = callees_in c.args.context.now in
     let i = instance_in c.args.context.now in
     formed k i (plain_code c.args.code.now) (plain_code c.emit_expr_if.new.code) (plain_fresh c.args.fresh.now) (plain_fresh c.emit_expr_if.new.fresh) ty at c.open.result
-        (method_form c.args.resource c.args.count (plain_expr c.args.address.now) (plain_maybe_expr c.args.value.now))
-        (method_form c.args.resource c.args.count (plain_expr c.args.address.now) (plain_maybe_expr c.args.value.now))
-        (method_form c.args.resource c.args.count (plain_expr c.in_ok-address.address) (plain_maybe_expr c.in_ok-value.value)) false refl
-        (method_done k i (plain_code c.args.code.now) (plain_fresh c.args.fresh.now) ty at c.args.resource c.args.count (plain_expr c.args.address.now) (plain_maybe_expr c.args.value.now) c.expr_if_holds_call.result
-            (made (plain_code c.emit_boxed.new.code) (plain_expr c.in_ok-address.address) (plain_fresh c.emit_boxed.new.fresh)) (made (plain_code c.emit_expr_if.new.code) (plain_maybe_expr c.in_ok-value.value) (plain_fresh c.emit_expr_if.new.fresh))
-            (c.expr_if_holds_call.ensures k i) c.in_ok-address.ensures c.in_ok-value.ensures)
-        (ap plain_form c.open.ensures.form ∙ plain_form-Method _ _ _ _) c.open.ensures.fixed
+    (method_form c.args.resource c.args.count (plain_expr c.args.address.now) (plain_maybe_expr c.args.value.now))
+    (method_form c.args.resource c.args.count (plain_expr c.args.address.now) (plain_maybe_expr c.args.value.now))
+    (method_form c.args.resource c.args.count (plain_expr c.in_ok-address.address) (plain_maybe_expr c.in_ok-value.value)) false refl
+    (method_done k i (plain_code c.args.code.now) (plain_fresh c.args.fresh.now) ty at c.args.resource c.args.count (plain_expr c.args.address.now) (plain_maybe_expr c.args.value.now) c.expr_if_holds_call.result
+    (made (plain_code c.emit_boxed.new.code) (plain_expr c.in_ok-address.address) (plain_fresh c.emit_boxed.new.fresh)) (made (plain_code c.emit_expr_if.new.code) (plain_maybe_expr c.in_ok-value.value) (plain_fresh c.emit_expr_if.new.fresh))
+    (c.expr_if_holds_call.ensures k i) c.in_ok-address.ensures c.in_ok-value.ensures)
+    (ap plain_form c.open.ensures.form ∙ plain_form-Method _ _ _ _) c.open.ensures.fixed
 
 pub emitting::emit_atomic-returns : goal.emitting::emit_atomic-returns
 emitting::emit_atomic-returns t c ty at =
     let k = callees_in c.args.context.now in
     let i = instance_in c.args.context.now in
     formed k i (plain_code c.args.code.now) (plain_code c.emit_place_if.new.code) (plain_fresh c.args.fresh.now) (plain_fresh c.emit_place_if.new.fresh) ty at c.open.result
-        (atomic_form (plain_target c.args.target.now) c.args.kind (plain_maybe_expr c.args.compare.now) (plain_expr c.args.value.now) (plain_maybe_location c.args.original.now))
-        (atomic_form (plain_target c.args.target.now) c.args.kind (plain_maybe_expr c.args.compare.now) (plain_expr c.args.value.now) (plain_maybe_location c.args.original.now))
-        (atomic_form (plain_target c.in_ok-target.target) c.args.kind (plain_maybe_expr c.in_ok-compare.compare) (plain_expr c.in_ok-value.value) (plain_maybe_location c.in_ok-original.original)) false refl
-        (atomic_done k i (plain_code c.args.code.now) (plain_fresh c.args.fresh.now) ty at (plain_target c.args.target.now) c.args.kind (plain_maybe_expr c.args.compare.now) (plain_expr c.args.value.now) (plain_maybe_location c.args.original.now)
-            c.either-behind_target.result c.either-behind_compare.result c.place_if_holds_call-behind_value.result
-            (made (plain_code c.emit_target.new.code) (plain_target c.in_ok-target.target) (plain_fresh c.emit_target.new.fresh)) (made (plain_code c.emit_expr_if.new.code) (plain_maybe_expr c.in_ok-compare.compare) (plain_fresh c.emit_expr_if.new.fresh))
-            (made (plain_code c.emit_boxed.new.code) (plain_expr c.in_ok-value.value) (plain_fresh c.emit_boxed.new.fresh)) (made (plain_code c.emit_place_if.new.code) (plain_maybe_location c.in_ok-original.original) (plain_fresh c.emit_place_if.new.fresh))
-            (c.place_if_holds_call-behind_value.ensures k i)
-            (c.either-behind_compare.ensures ∙ ap (λ b. b || c.place_if_holds_call-behind_value.result) (c.holds_call.ensures k i))
-            (c.either-behind_target.ensures ∙ ap (λ b. b || c.either-behind_compare.result) (c.expr_if_holds_call.ensures k i))
-            c.in_ok-target.ensures c.in_ok-compare.ensures c.in_ok-value.ensures c.in_ok-original.ensures)
-        (ap plain_form c.open.ensures.form ∙ plain_form-Atomic _ _ _ _ _) c.open.ensures.fixed
+    (atomic_form (plain_target c.args.target.now) c.args.kind (plain_maybe_expr c.args.compare.now) (plain_expr c.args.value.now) (plain_maybe_location c.args.original.now))
+    (atomic_form (plain_target c.args.target.now) c.args.kind (plain_maybe_expr c.args.compare.now) (plain_expr c.args.value.now) (plain_maybe_location c.args.original.now))
+    (atomic_form (plain_target c.in_ok-target.target) c.args.kind (plain_maybe_expr c.in_ok-compare.compare) (plain_expr c.in_ok-value.value) (plain_maybe_location c.in_ok-original.original)) false refl
+    (atomic_done k i (plain_code c.args.code.now) (plain_fresh c.args.fresh.now) ty at (plain_target c.args.target.now) c.args.kind (plain_maybe_expr c.args.compare.now) (plain_expr c.args.value.now) (plain_maybe_location c.args.original.now)
+    c.either-behind_target.result c.either-behind_compare.result c.place_if_holds_call-behind_value.result
+    (made (plain_code c.emit_target.new.code) (plain_target c.in_ok-target.target) (plain_fresh c.emit_target.new.fresh)) (made (plain_code c.emit_expr_if.new.code) (plain_maybe_expr c.in_ok-compare.compare) (plain_fresh c.emit_expr_if.new.fresh))
+    (made (plain_code c.emit_boxed.new.code) (plain_expr c.in_ok-value.value) (plain_fresh c.emit_boxed.new.fresh)) (made (plain_code c.emit_place_if.new.code) (plain_maybe_location c.in_ok-original.original) (plain_fresh c.emit_place_if.new.fresh))
+    (c.place_if_holds_call-behind_value.ensures k i)
+    (c.either-behind_compare.ensures ∙ ap (λ b. b || c.place_if_holds_call-behind_value.result) (c.holds_call.ensures k i))
+    (c.either-behind_target.ensures ∙ ap (λ b. b || c.either-behind_compare.result) (c.expr_if_holds_call.ensures k i))
+    c.in_ok-target.ensures c.in_ok-compare.ensures c.in_ok-value.ensures c.in_ok-original.ensures)
+    (ap plain_form c.open.ensures.form ∙ plain_form-Atomic _ _ _ _ _) c.open.ensures.fixed
 
 pub emitting::emit_expr_if-returns-in_ok-value-in-Some : goal.emitting::emit_expr_if-returns-in_ok-value-in-Some
 emitting::emit_expr_if-returns-in_ok-value-in-Some t c =
@@ -270,12 +270,12 @@ emitting::emit_exprs-loop-index-preserved t c =
     let rest = emit_all false (map (em k i) (drop (c.loop-index.index + 1) xs)) (plain_fresh c.emit_operand.new.fresh) in
     c.loop-index.invariant ∙
     (exprs_next k i c.last_call-last.result xs c.loop-index.index c.expr-item.result (plain_code c.loop-index.code) (map plain_expr c.loop-index.values) (plain_fresh c.loop-index.fresh)
-        (made (plain_code c.emit_operand.new.code) (plain_expr c.in_ok-value.value) (plain_fresh c.emit_operand.new.fresh))
-        c.loop-index-test.true c.expr-item.is
-        (c.last_call-last.ensures k i ∙ ap (λ l. last_true (map (expr_calls k i) l)) (c.as_slice.ensures ∙ sym c.as_slice-expr-items.ensures))
-        c.in_ok-value.ensures ∙
+    (made (plain_code c.emit_operand.new.code) (plain_expr c.in_ok-value.value) (plain_fresh c.emit_operand.new.fresh))
+    c.loop-index-test.true c.expr-item.is
+    (c.last_call-last.ensures k i ∙ ap (λ l. last_true (map (expr_calls k i) l)) (c.as_slice.ensures ∙ sym c.as_slice-expr-items.ensures))
+    c.in_ok-value.ensures ∙
     ap (λ v. values_behind (plain_code c.emit_operand.new.code) v rest)
-        (sym (ap (map plain_expr) c.in_ok-push.ensures.ok ∙ map-append plain_expr c.loop-index.values (c.in_ok-value.value ∷ []))))
+    (sym (ap (map plain_expr) c.in_ok-push.ensures.ok ∙ map-append plain_expr c.loop-index.values (c.in_ok-value.value ∷ []))))
 
 pub emitting::emit_exprs-returns : goal.emitting::emit_exprs-returns
 emitting::emit_exprs-returns t c =
@@ -284,7 +284,7 @@ emitting::emit_exprs-returns t c =
     let xs = c.as_slice-expr-items.result.now in
     ap (λ l. made_behind (plain_code c.args.code.now) exprs_of (emit_all false l (plain_fresh c.args.fresh.now))) (exprs_held k i c.args.exprs.now ∙ ap (map (em k i)) (sym c.as_slice-expr-items.ensures)) ∙
     ap (λ v. made v.code (exprs_of v.values) v.fresh)
-        (c.loop-index.invariant ∙ exprs_end k i xs c.loop-index.index (plain_code c.loop-index.code) (map plain_expr c.loop-index.values) (plain_fresh c.loop-index.fresh) c.loop-index-test.false)
+    (c.loop-index.invariant ∙ exprs_end k i xs c.loop-index.index (plain_code c.loop-index.code) (map plain_expr c.loop-index.values) (plain_fresh c.loop-index.fresh) c.loop-index-test.false)
 
 -- ---- places
 
@@ -297,11 +297,11 @@ places::emit_place-returns t c =
     let place = c.args.place.now in
     ap (λ l. made_behind code (filled_place i.first l) (emit_all c.args.further (place_emitters k i l) fresh)) (plain_location-is place) ∙
     (place_done k i code fresh c.args.further c.either.result (plain_ty place.ty) (plain_root place.root) (plain_parts place.parts)
-        (made (plain_code c.emit_root.new.code) (plain_root c.in_ok-root.root) (plain_fresh c.emit_root.new.fresh))
-        (made (plain_code c.emit_parts.new.code) (plain_parts c.in_ok-parts.parts) (plain_fresh c.emit_parts.new.fresh))
-        (c.either.ensures ∙ ap (λ b. c.args.further || b)
-            (parts_flag k i c.last_call_in_parts-last.result c.as_slice.result.now 0 (c.last_call_in_parts-last.ensures k i) ∙ ap (λ ps. any_calls (parts_emitters k i (plain_parts ps))) c.as_slice.ensures))
-        c.in_ok-root.ensures (c.in_ok-parts.ensures (c.last_call_in_parts-last.ensures k i ∙ ap (λ l. last_true (map (part_calls k i) l)) c.as_slice.ensures)) ∙
+    (made (plain_code c.emit_root.new.code) (plain_root c.in_ok-root.root) (plain_fresh c.emit_root.new.fresh))
+    (made (plain_code c.emit_parts.new.code) (plain_parts c.in_ok-parts.parts) (plain_fresh c.emit_parts.new.fresh))
+    (c.either.ensures ∙ ap (λ b. c.args.further || b)
+    (parts_flag k i c.last_call_in_parts-last.result c.as_slice.result.now 0 (c.last_call_in_parts-last.ensures k i) ∙ ap (λ ps. any_calls (parts_emitters k i (plain_parts ps))) c.as_slice.ensures))
+    c.in_ok-root.ensures (c.in_ok-parts.ensures (c.last_call_in_parts-last.ensures k i ∙ ap (λ l. last_true (map (part_calls k i) l)) c.as_slice.ensures)) ∙
     ap (λ l. made (plain_code c.emit_parts.new.code) l (plain_fresh c.emit_parts.new.fresh)) (sym (location-as _ _ _ _ c.in_ok-ty.ensures refl refl)))
 
 pub places::emit_root-returns-in_ok-number-in-Variable : goal.places::emit_root-returns-in_ok-number-in-Variable
@@ -339,7 +339,7 @@ places::emit_root-returns-in_ok-index-in-Element t c =
     let code = plain_code c.args.code.now in
     let fresh = plain_fresh c.args.fresh.now in
     ap (λ r. made_behind code (filled_root i.first r) (emit_all c.args.further (root_emitters k i r) fresh))
-        (ap plain_root c.in-Element.is ∙ (plain_root-Element _ _ ∙ ap (λ v. element_root c.in-Element.resource (plain_expr v)) (sym c.get.ensures))) ∙
+    (ap plain_root c.in-Element.is ∙ (plain_root-Element _ _ ∙ ap (λ v. element_root c.in-Element.resource (plain_expr v)) (sym c.get.ensures))) ∙
     (element_done k i code fresh c.args.further c.in-Element.resource (plain_expr c.get.result.now) _ c.in_ok-index-in-Element.ensures ∙
     ap (λ r. made (plain_code c.emit_boxed.new.code) r (plain_fresh c.emit_boxed.new.fresh)) (sym (plain_root-Element _ _)))
 
@@ -356,10 +356,10 @@ places::emit_parts-loop-index-preserved t c last_is =
     let xs = c.as_slice-part-items.result.now in
     c.loop-index.invariant last_is ∙
     (parts_next k i c.args.further c.either.result c.args.last xs c.loop-index.index c.part-item.result (plain_code c.loop-index.code) (map plain_part c.loop-index.made) (plain_fresh c.loop-index.fresh)
-        (made (plain_code c.emit_part.new.code) (plain_part c.in_ok-part.part) (plain_fresh c.emit_part.new.fresh))
-        c.loop-index-test.true c.part-item.is last_is c.either.ensures c.in_ok-part.ensures ∙
+    (made (plain_code c.emit_part.new.code) (plain_part c.in_ok-part.part) (plain_fresh c.emit_part.new.fresh))
+    c.loop-index-test.true c.part-item.is last_is c.either.ensures c.in_ok-part.ensures ∙
     ap (λ v. parts_left k i c.args.further (plain_code c.emit_part.new.code) v (drop (c.loop-index.index + 1) xs) (plain_fresh c.emit_part.new.fresh))
-        (sym (ap (map plain_part) c.in_ok-push.ensures.ok ∙ map-append plain_part c.loop-index.made (c.in_ok-part.part ∷ []))))
+    (sym (ap (map plain_part) c.in_ok-push.ensures.ok ∙ map-append plain_part c.loop-index.made (c.in_ok-part.part ∷ []))))
 
 pub places::emit_parts-returns : goal.places::emit_parts-returns
 places::emit_parts-returns t c last_is =
@@ -386,7 +386,7 @@ places::emit_part-returns-in_ok-index-in-Index t c =
     let code = plain_code c.args.code.now in
     let fresh = plain_fresh c.args.fresh.now in
     ap (λ p. made_behind code (filled_part p) (emit_all c.args.further (part_emitters k i p) fresh))
-        (ap plain_part c.in-Index.is ∙ (plain_part-Index _ ∙ ap (λ v. index_part (plain_expr v)) (sym c.get.ensures))) ∙
+    (ap plain_part c.in-Index.is ∙ (plain_part-Index _ ∙ ap (λ v. index_part (plain_expr v)) (sym c.get.ensures))) ∙
     (index_done k i code fresh c.args.further (plain_expr c.get.result.now) _ c.in_ok-index-in-Index.ensures ∙
     ap (λ p. made (plain_code c.emit_boxed.new.code) p (plain_fresh c.emit_boxed.new.fresh)) (sym (plain_part-Index _)))
 
@@ -433,7 +433,7 @@ places::emit_target-returns-in_ok-address-in-Bytes t c =
     let code = plain_code c.args.code.now in
     let fresh = plain_fresh c.args.fresh.now in
     ap (λ l. made_behind code (filled_target i.first l) (emit_all c.args.further (target_emitters k i l) fresh))
-        (ap plain_target c.in-Bytes.is ∙ (plain_target-Bytes _ _ ∙ ap (λ v. bytes_target c.in-Bytes.resource (plain_expr v)) (sym c.get.ensures))) ∙
+    (ap plain_target c.in-Bytes.is ∙ (plain_target-Bytes _ _ ∙ ap (λ v. bytes_target c.in-Bytes.resource (plain_expr v)) (sym c.get.ensures))) ∙
     (bytes_done k i code fresh c.args.further c.in-Bytes.resource (plain_expr c.get.result.now) _ c.in_ok-address-in-Bytes.ensures ∙
     ap (λ l. made (plain_code c.emit_boxed.new.code) l (plain_fresh c.emit_boxed.new.fresh)) (sym (plain_target-Bytes _ _)))
 
@@ -577,7 +577,7 @@ calling::pass_all-loop-index-preserved t c =
     (plain_code c.pass.new.code) (plain_code c.pass.new.copies) (plain_fresh c.pass.new.fresh)
     within c.index-args-index.is among (get_or_default ps n no_parameter p among) c.loop-index.invariant
     (ap (λ m. passed_behind (plain_code c.loop-index.code) (plain_code c.loop-index.copies) (pass_all i c.args.at m (arg_emitter k i (plain_arg c.index-args-index.result) ∷ []) (p ∷ []) (plain_fresh c.loop-index.fresh)))
-        (sym c.in_ok-variable.ensures) ∙ c.in_ok-pass.ensures p refl)
+    (sym c.in_ok-variable.ensures) ∙ c.in_ok-pass.ensures p refl)
 
 pub calling::pass_all-returns : goal.calling::pass_all-returns
 calling::pass_all-returns t c =

@@ -5,7 +5,7 @@ from dataclasses import dataclass
 import subprocess, sys
 
 from measure import instructions, memory_ratio, peak, seconds, shown
-from programs import ASIDE, WIDE, kernels
+from programs import ASIDE, CALLS, WIDE, kernels
 from sources import DEEPEST, WIDEST, average, dense, tokens_of
 
 MOST_BYTES = 1048576
@@ -20,6 +20,8 @@ SPEED = {'lex': 20, 'parse': 8, 'elaborate': 4}
 INSTRUCTIONS = {'lex': 150, 'parse': 400, 'elaborate': 1000}
 DOUBLED = 2.3
 OVER_AVERAGE = 3
+# of `inline`, for each thing that the limit on sizes counts once all calls are replaced
+COUNTED = 2000
 
 
 @dataclass
@@ -147,6 +149,38 @@ def show_programs(program, folder, idle, judge):
         row(shape, 'elaborate', both[1], memory_ratio([program, 'elaborate'], both[1].path, idle), ratio)
 
 
+def held(program, path):
+    """How much a program holds with all calls replaced."""
+    done = subprocess.run([program, 'sizes'], input=path.read_bytes(), capture_output=True, text=False)
+    if not done.stdout.startswith(b'size '):
+        sys.exit(f'bench/run: {path}: {done.stdout!r}, {done.stderr!r}')
+    return int(done.stdout.split()[1])
+
+
+def inlined(program, path):
+    """The instructions that removing the calls takes by itself, where callgrind is installed."""
+    behind, before = instructions([program, 'inline'], path), instructions([program, 'sizes'], path)
+    return None if behind is None or before is None else behind - before
+
+
+def show_calls(program, folder, judge):
+    """Prints the rows of programs with calls, each beside one with half as many."""
+    print()
+    print(f'{"calls":>15} {"layer":>9} {"bytes":>8} {"size":>7} {"instr/counted":>13} {"doubled":>7}')
+    for shape, (make, count) in CALLS.items():
+        both = []
+        for calls in (count // 2, count):
+            path = folder / f'calls-{calls}.hlsl'
+            path.write_bytes(make(calls))
+            both.append((held(program, path), inlined(program, path), path.stat().st_size))
+        (half_size, half, _), (size, whole, length) = both
+        per = None if whole is None else whole / size
+        ratio = None if whole is None or half is None else whole / size / (half / half_size)
+        judge.wants(f'inline, {shape}, instructions for each thing that is counted', per, COUNTED)
+        judge.wants(f'inline, {shape}, the same over that of half as many calls', ratio, DOUBLED / 2)
+        print(f'{shape:>15} {"inline":>9} {length:>8} {size:>7} {shown(per, "{:.0f}"):>13} {shown(ratio, "{:.2f}"):>7}', flush=True)
+
+
 def show(program, folder):
     """Prints the tables of the layers. Whether each target is met."""
     judge = Judge()
@@ -158,9 +192,11 @@ def show(program, folder):
     print()
     show_sizes(program, folder, idle, judge, 'kernels', kernels, RULES)
     show_programs(program, folder, idle, judge)
+    show_calls(program, folder, judge)
     print(f'\naims: lex {SPEED["lex"]} MB/s and {INSTRUCTIONS["lex"]} instructions a byte, parse {SPEED["parse"]} and'
           f' {INSTRUCTIONS["parse"]}, elaborate {SPEED["elaborate"]} and {INSTRUCTIONS["elaborate"]}, doubled {DOUBLED},'
-          f' a token over that of the average text {OVER_AVERAGE}')
+          f' a token over that of the average text {OVER_AVERAGE},'
+          f' inline {COUNTED} instructions for each thing that is counted')
     for line in judge.missed:
         print(f'missed: {line}')
     return not judge.missed

@@ -265,6 +265,35 @@ WIDE = {
     '64 operands': repeated(ENTRY + b'uint x=0;', b'x=1' + 61 * b'+1' + b';', b'}'),
     'greatest size': sized(16384),
 }
+DST = b'RWByteAddressBuffer dst;\n'
+SMALL = b'uint f(uint a, inout uint b) { uint x[4]; x[a & 3] = b; if (a > 2) return x[a & 3] + 1; b = b + a; return a; }\n'
+
+
+def called(text, before=DST + SMALL + ENTRY + b'uint u = 1; uint w = 2;', after=b'dst.Store(0, u); }'):
+    """A program whose entry has a text so many times."""
+    def make(count):
+        return before + count * text + after
+    return make
+
+
+def doubling(count):
+    """A chain of functions, each of which calls the one before it twice, until the entry calls so many."""
+    parts, calls = [b'uint f0(uint a) { return a + 1; }\n'], 1
+    while 2 * calls <= count:
+        number = len(parts)
+        parts.append(b'uint f%d(uint a) { uint x = f%d(a); return x + f%d(x); }\n' % (number, number - 1, number - 1))
+        calls *= 2
+    return DST + b''.join(parts) + ENTRY + b'dst.Store(0, f%d(1)); }' % (len(parts) - 1)
+
+
+# Programs with calls, by a count, and how great it is. What they hold with all calls replaced grows with it.
+CALLS = {
+    'statements': (called(b'u = f(u, w);'), 256),
+    'operands': (called(b'u = f(u, w) + f(w, u);'), 128),
+    'arguments': (called(b'u = f(f(u, w), w);'), 128),
+    'deep operands': (called(b'u = ' + 30 * b'(u + ' + b'f(u, w)' + 30 * b')' + b';'), 64),
+    'doubling': (doubling, 512),
+}
 # each function of a name is compared with those of the name before it, and no aim is set for that
 ASIDE = {'overloads'}
 SHAPES = {'kernels': kernels} | WIDE

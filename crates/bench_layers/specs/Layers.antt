@@ -1,12 +1,14 @@
 -- The words that name a layer.
 use Rattle.std.specs.Prelude.{◌≢◌, ℕ, List, [], ◌∷◌, codes}
 use Rattle.bench_layers.specs.declared.layer.Layer.{Layer}
-use Rattle.bench_layers.specs.declared.layer.Layer.TheVariants.{Elaborate, Lex, Parse}
+use Rattle.bench_layers.specs.declared.layer.Layer.TheVariants.{Elaborate, Inline, Lex, Parse, Sizes}
 
 abbrev pub words_of : Layer → List (List ℕ)
 words_of Lex = codes "lex" ∷ []
 words_of Parse = codes "parse" ∷ []
 words_of Elaborate = codes "elaborate" ∷ []
+words_of Sizes = codes "sizes" ∷ []
+words_of Inline = codes "inline" ∷ []
 
 -- the words name no layer
 abbrev pub IsNoLayer : List (List ℕ) → Type 0

@@ -12,6 +12,10 @@ pub(crate) enum Layer {
     Parse,
     /// The typed program of the tree, with the entry `main`.
     Elaborate,
+    /// What the program holds.
+    Sizes,
+    /// The program without calls.
+    Inline,
 }
 
 impl Layer {
@@ -37,6 +41,12 @@ impl Layer {
         }
         if word == "elaborate" {
             return Some(Layer::Elaborate);
+        }
+        if word == "sizes" {
+            return Some(Layer::Sizes);
+        }
+        if word == "inline" {
+            return Some(Layer::Inline);
         }
         None
     }

@@ -12,7 +12,7 @@ use thiserror::Error;
 #[derive(Clone, Copy, Debug, PartialEq, Eq, Error)]
 pub(crate) enum Stop {
     /// The words name no layer.
-    #[error("usage: bench_layers lex | parse | elaborate")]
+    #[error("usage: bench_layers lex | parse | elaborate | sizes | inline")]
     Usage,
     /// The input failed.
     #[error("error: read fault")]

@@ -204,3 +204,54 @@ fn a_call_in_an_argument_comes_before_the_call(rt: HostRuntime) -> Result<(), Fa
     }
     Ok(())
 }
+
+/// The statement that comes last inside another one.
+fn last_inside(stmt: &FlatStmt) -> Option<&FlatStmt> {
+    match stmt {
+        FlatStmt::Block(stmts) => stmts.as_slice().last(),
+        FlatStmt::Named { body, .. } => Some(body.get()),
+        FlatStmt::Loop(body) => Some(body.get()),
+        FlatStmt::If { yes, .. } => Some(yes.get()),
+        _ => None,
+    }
+}
+
+/// The last statement inside the last one, and so on, as deep as there is one.
+fn innermost(stmt: &FlatStmt) -> &FlatStmt {
+    let mut stmt = stmt;
+    for _depth in 0..32 {
+        match last_inside(stmt) {
+            Some(inner) => stmt = inner,
+            None => return stmt,
+        }
+    }
+    stmt
+}
+
+/// Whether the first statement of a function in its name is left for that name, however deep it is nested.
+fn is_left_from_inside(stmt: Option<&FlatStmt>) -> bool {
+    match stmt {
+        Some(FlatStmt::Named { name: 1, body }) => match body.get() {
+            FlatStmt::Block(stmts) => match stmts.as_slice().first() {
+                Some(first) => matches!(innermost(first), FlatStmt::Leave(1)),
+                None => false,
+            },
+            _ => false,
+        },
+        _ => false,
+    }
+}
+
+#[test]
+fn a_return_in_nested_loops_leaves_the_function(rt: HostRuntime) -> Result<(), Fail> {
+    let text =
+        b"uint g(uint v) { while (true) { while (true) { v = v - 1; if (v < 3) return v; } } return 9; }\n[numthreads(1,1,1)] void main() { uint x = g(7); }";
+    match flat_of(rt.alloc(), text)? {
+        Some(flat) => {
+            assert_eq!(rt; flat.variables.len(), 3);
+            assert!(rt; is_left_from_inside(body_of(&flat).get(1)));
+        }
+        None => assert!(rt; false),
+    }
+    Ok(())
+}

@@ -292,6 +292,9 @@ CALLS = {
     'operands': (called(b'u = f(u, w) + f(w, u);'), 128),
     'arguments': (called(b'u = f(f(u, w), w);'), 128),
     'deep operands': (called(b'u = ' + 30 * b'(u + ' + b'f(u, w)' + 30 * b')' + b';'), 64),
+    'deep choices': (called(b'u = ' + 29 * b'u > w ? u : (' + b'f(u, w)' + 29 * b')' + b';'), 32),
+    'deep indexes': (called(b'u = ' + 29 * b'x[' + b'f(u, w)' + 29 * b' & 3]' + b';',
+                            DST + SMALL + ENTRY + b'uint u = 1; uint w = 2; uint x[4];'), 32),
     'doubling': (doubling, 512),
 }
 # each function of a name is compared with those of the name before it, and no aim is set for that

@@ -57,10 +57,10 @@ fn run_in(
 {
     let run = Run {
         alloc,
-        program: &*program,
-        slots: &*slots,
-        lane: &*lane,
-        replies: &*replies,
+        program,
+        slots,
+        lane,
+        replies,
         turns,
     };
     let inputs = inputs(&run)?;

@@ -1,5 +1,7 @@
-"""Times the lexer, and the lexer with the parser behind it, on the sources of sources.py, and both
-with the typing rules behind them on those of programs.py.
+"""Times the lexer, and the lexer with the parser after it, on the sources of sources.py, and both with
+the typing rules after them on those of programs.py. Of `inline`, on the programs with calls there, it
+counts the instructions alone: those of `bench_layers inline` less those of `bench_layers sizes`, which
+does all that comes before.
 """
 from dataclasses import dataclass
 import subprocess, sys

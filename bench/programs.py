@@ -286,6 +286,14 @@ def doubling(count):
     return DST + b''.join(parts) + ENTRY + b'dst.Store(0, f%d(1)); }' % (len(parts) - 1)
 
 
+def tree(levels):
+    """An expression without calls, wide below so many levels."""
+    return b'u' if levels == 0 else b'max(%s, %s)' % (tree(levels - 1), tree(levels - 1))
+
+
+# a call among the operands of a chain as deep as it may be, which turns to the right, or to the left and right
+CALL, CHOICE, TREE = b'f(u, w)', b'u > w ? u : ', tree(8)
+ZIGZAG = 29 * (CHOICE + b'u > w ? ') + CALL + 29 * b' : u'
 # Programs with calls, by a count, and how great it is. What they hold with all calls replaced grows with it.
 CALLS = {
     'statements': (called(b'u = f(u, w);'), 256),
@@ -295,6 +303,11 @@ CALLS = {
     'deep choices': (called(b'u = ' + 29 * b'u > w ? u : (' + b'f(u, w)' + 29 * b')' + b';'), 32),
     'deep indexes': (called(b'u = ' + 29 * b'x[' + b'f(u, w)' + 29 * b' & 3]' + b';',
                             DST + SMALL + ENTRY + b'uint u = 1; uint w = 2; uint x[4];'), 32),
+    'long choices': (called(b'u = ' + 58 * CHOICE + CALL + b';'), 32),
+    'zigzag choices': (called(b'u = ' + ZIGZAG + b';'), 32),
+    'call and tree': (called(b'u = ' + 51 * CHOICE + CALL + b' + ' + TREE + b';'), 16),
+    'tree and call': (called(b'u = ' + 51 * CHOICE + TREE + b' + ' + CALL + b';'), 16),
+    'assigned trees': (called(52 * b'u = ' + CALL + b' + ' + TREE + b';'), 16),
     'doubling': (doubling, 512),
 }
 # each function of a name is compared with those of the name before it, and no aim is set for that

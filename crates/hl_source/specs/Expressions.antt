@@ -25,39 +25,40 @@ use Rattle.hl_source.specs.Intrinsics.{work_of, worked}
 abbrev pub parameters_of : Context → (function : ℕ) → List Parameter
 parameters_of c function = option_map_or (λ f. f.parameters) (slice_get c.scope.functions function) []
 
--- What a parameter starts with whose argument is a place: an `out` parameter with zeros, and an `inout` parameter with
--- the value of the place.
-abbrev pub starts_with : Context → Copying → Location → (indexes : List ℕ) → State → Progress (List ℕ)
-starts_with c CopyOut place indexes s = goes_with (zeros_of c (place_type place)) s
-starts_with c _ place indexes s = read_place c place indexes s
+-- Copy-in: the words that a parameter has at first whose argument is a place. An `out` parameter has zeros, and an
+-- `inout` parameter the value of the place.
+abbrev pub copies_in : Context → Copying → Location → (indexes : List ℕ) → State → Progress (List ℕ)
+copies_in c CopyOut place indexes s = goes_with (zeros_of c (place_type place)) s
+copies_in c _ place indexes s = read_place c place indexes s
 
--- the two operands of an argument: the indexes of its place, none where it is a value, and what its parameter starts with
-abbrev pub argument : (indexes start : List ℕ) → List (List ℕ)
-argument indexes start = indexes ∷ start ∷ []
+-- the two operands of an argument: the indexes of its place, none where it is a value, and the words that its parameter
+-- has at first
+abbrev pub argument_operands : (indexes initial : List ℕ) → List (List ℕ)
+argument_operands indexes initial = indexes ∷ initial ∷ []
 
--- what the parameters start with, of the operands of a call, two for each argument
-abbrev pub starts : List (List ℕ) → List (List ℕ)
-starts (indexes ∷ start ∷ operands) = start ∷ starts operands
-starts _ = []
+-- the words that the parameters have at first, of the operands of a call, two for each argument
+abbrev pub initial_parameters : List (List ℕ) → List (List ℕ)
+initial_parameters (indexes ∷ initial ∷ operands) = initial ∷ initial_parameters operands
+initial_parameters _ = []
 
 -- the value of something of a type with these words, which are read as values of their kinds
 abbrev pub value_of_words : Context → Ty → List ℕ → List ℕ
 value_of_words c ty words = map_2 word_as (kinds_of c.scope.structs ty) words
 
--- Behind the body the values of `out` and `inout` parameters are read and written back, in order of the parameters.
--- That ends with the arguments: in a well-formed program each has its two operands and a variable.
+-- Copy-out: behind the body the values of `out` and `inout` parameters are read and written back, in order of the
+-- parameters. That ends with the arguments: in a well-formed program each has its two operands and a variable.
 abbrev pub copies_out : Context → Args → (operands parameters : List (List ℕ)) → State → Progress (List ℕ)
-copies_out c (more_args (place_arg place) rest) (indexes ∷ start ∷ operands) (words ∷ parameters) s =
+copies_out c (more_args (place_arg place) rest) (indexes ∷ initial ∷ operands) (words ∷ parameters) s =
     after (write_place c place indexes (value_of_words c (place_type place) words) s) (λ _ s'. copies_out c rest operands parameters s')
-copies_out c (more_args (value_arg value) rest) (indexes ∷ start ∷ operands) (words ∷ parameters) s =
+copies_out c (more_args (value_arg value) rest) (indexes ∷ initial ∷ operands) (words ∷ parameters) s =
     copies_out c rest operands parameters s
 copies_out c _ _ _ s = goes_with [] s
 
 -- A call runs the function with variables of its own. Its result is computed before the values are written back.
 abbrev pub calls : Context → Callee → Args → (operands : List (List ℕ)) → State → Progress (List ℕ)
 calls c callee args operands s =
-    after (callee (starts operands) s.exchange) (λ result ended.
-    after (copies_out c args operands ended.variables (record s { exchange = ended.exchange })) (λ _ s'. goes_with result s'))
+    after (callee (initial_parameters operands) s.exchange) (λ result callee_state.
+    after (copies_out c args operands callee_state.variables (record s { exchange = callee_state.exchange })) (λ _ s'. goes_with result s'))
 
 -- a function that isn't there does nothing; no well-formed program calls one
 abbrev pub no_callee : Callee
@@ -91,7 +92,7 @@ assigns c to op common old indexes words s =
 -- the word that the target had: of the place with these indexes, or at this byte address
 abbrev pub atomic_original : Context → Target → Option AtomicKind → (indexes : List ℕ) → (compare word : ℕ) → State → Progress ℕ
 atomic_original c (place_target place) kind indexes compare word s =
-    atomic_word c (place_of c place indexes).holder (place_of c place indexes).at.offset kind compare word s
+    atomic_word c (place_of c place indexes).holder (place_of c place indexes).reached.offset kind compare word s
 atomic_original c (bytes_target resource address) kind indexes compare word s =
     atomic_address (slot_of c resource) (slice_index indexes 0) kind compare word s
 
@@ -125,21 +126,21 @@ acts c ty (call_form function args) operands s =
     calls c (slice_index_or c.callees function no_callee) args operands s
 acts c ty (intrinsic_form number args) operands s = worked c (work_of number) ty operands s
 -- a load or a store of a byte-address buffer is one event: the byte address is its index, and the offset is 0
-acts c ty (method_form resource count address no_expr) (at ∷ []) s =
-    after (load_four (slot_of c resource) (slice_index at 0) 0 s) (λ words s'. goes_with (take count words) s')
-acts c ty (method_form resource count address (some_expr value)) (at ∷ words ∷ []) s =
-    store_four (slot_of c resource) (slice_index at 0) 0 words s
+acts c ty (method_form resource count _ no_expr) (address ∷ []) s =
+    after (load_four (slot_of c resource) (slice_index address 0) 0 s) (λ words s'. goes_with (take count words) s')
+acts c ty (method_form resource count _ (some_expr value)) (address ∷ words ∷ []) s =
+    store_four (slot_of c resource) (slice_index address 0) 0 words s
 -- an atomic operation is one event, and then the original value is written where a place for it is given
-acts c ty (atomic_form target kind compare value original) (at ∷ compared ∷ words ∷ place ∷ []) s =
-    after (atomic_original c target kind at (slice_index compared 0) (slice_index words 0) s)
-    (λ before s'. no_value (write_if c original place (before ∷ []) s'))
+acts c ty (atomic_form target kind compare value original) (indexes ∷ compared ∷ words ∷ original_indexes ∷ []) s =
+    after (atomic_original c target kind indexes (slice_index compared 0) (slice_index words 0) s)
+    (λ before s'. no_value (write_if c original original_indexes (before ∷ []) s'))
 -- no well-formed program reaches this: its forms have no other operands
 acts c ty _ _ s = goes_with [] s
 
 abbrev mutual
   -- the value of an expression
   pub evaluates : Context → Expr → State → Progress (List ℕ)
-  evaluates c (an_expr ty at form) s = after (operands c form s) (acts c ty form)
+  evaluates c (an_expr ty _ form) s = after (operands c form s) (acts c ty form)
 
   -- The first table: the operands of each form, in order. An operand is a value, or the indexes of a place. What may be
   -- left out has no words.
@@ -167,14 +168,17 @@ abbrev mutual
   pub indexes : Context → Location → State → Progress (List ℕ)
   indexes c (a_location ty root parts) s = joined (root_index c root s) (λ s'. step_indexes c parts s')
 
+  -- the index of an element of a buffer; no other root has one
   pub root_index : Context → Root → State → Progress (List ℕ)
   root_index c (element_root resource index) s = evaluates c index s
   root_index c _ s = goes_with [] s
 
+  -- the indexes of steps, in order
   pub step_indexes : Context → PathParts → State → Progress (List ℕ)
   step_indexes c no_parts s = goes_with [] s
   step_indexes c (more_parts first rest) s = joined (step_index c first s) (λ s'. step_indexes c rest s')
 
+  -- the index of a step; a member or a swizzle has none
   pub step_index : Context → PathPart → State → Progress (List ℕ)
   step_index c (index_part index) s = evaluates c index s
   step_index c _ s = goes_with [] s
@@ -184,20 +188,22 @@ abbrev mutual
   target_indexes c (place_target place) s = indexes c place s
   target_indexes c (bytes_target resource address) s = evaluates c address s
 
+  -- values in order, an operand each
   pub values : Context → Exprs → State → Progress (List (List ℕ))
   values c no_exprs s = goes_with [] s
   values c (more_exprs first rest) s = first_then (evaluates c first s) (λ s'. values c rest s')
 
-  -- a value that may be left out: none then, or one without words
-
+  -- a value that may be left out: no operand then
   pub values_if : Context → MaybeExpr → State → Progress (List (List ℕ))
   values_if c no_expr s = goes_with [] s
   values_if c (some_expr value) s = alone (evaluates c value s)
 
+  -- a value that may be left out: no words then
   pub value_if : Context → MaybeExpr → State → Progress (List ℕ)
   value_if c no_expr s = goes_with [] s
   value_if c (some_expr value) s = evaluates c value s
 
+  -- the indexes of a place that may be left out: no words then
   pub indexes_if : Context → MaybeLocation → State → Progress (List ℕ)
   indexes_if c no_location s = goes_with [] s
   indexes_if c (some_location place) s = indexes c place s
@@ -211,6 +217,7 @@ abbrev mutual
   -- An `in` argument is evaluated. An `inout` argument evaluates its indexes and is then read. An `out` argument
   -- evaluates its indexes.
   pub argument_of : Context → Arg → Copying → State → Progress (List (List ℕ))
-  argument_of c (value_arg value) passing s = after (evaluates c value s) (λ words s'. goes_with (argument [] words) s')
+  argument_of c (value_arg value) _ s = after (evaluates c value s) (λ words s'. goes_with (argument_operands [] words) s')
   argument_of c (place_arg place) passing s =
-      after (indexes c place s) (λ at s1. after (starts_with c passing place at s1) (λ start s2. goes_with (argument at start) s2))
+      after (indexes c place s) (λ index_words s1.
+      after (copies_in c passing place index_words s1) (λ initial s2. goes_with (argument_operands index_words initial) s2))

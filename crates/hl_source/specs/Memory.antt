@@ -40,6 +40,7 @@ word_offsets offset count = map (wrapping_add offset) (range_with_len 0 count)
 abbrev pub within : {A : Type 0} → (offset words : ℕ) → (State → Progress A) → State → Progress A
 within offset words go s = (if nat_lt offset words then go else faults OutOfBounds) s
 
+-- the word of a variable or a constant at an offset
 abbrev pub word_of : List ℕ → (offset : ℕ) → State → Progress ℕ
 word_of words offset s = gives (ok_or (slice_get words offset) OutOfBounds) s
 
@@ -76,6 +77,7 @@ store_words slot index offset words s =
 
 -- words
 
+-- a word of a groupshared variable, as events name it
 abbrev pub cell : (variable word : ℕ) → Cell
 cell variable word = record { variable = variable; word = word }
 
@@ -84,9 +86,10 @@ abbrev pub read_words : Context → Holder → (offset count : ℕ) → State �
 read_words c (in_variable number) offset count s = each (word_of (variable_words s number)) (word_offsets offset count) s
 read_words c (in_constant number) offset count s = each (word_of (constant_words c number)) (word_offsets offset count) s
 read_words c (in_shared number) offset count s =
-    each (λ at. within at (shared_size c number) (asks_word (SharedLoad (cell number at)))) (word_offsets offset count) s
+    each (λ word. within word (shared_size c number) (asks_word (SharedLoad (cell number word)))) (word_offsets offset count) s
 read_words c (in_element slot index) offset count s = load_words slot index offset count s
 
+-- a word of a variable that isn't groupshared is written
 abbrev pub write_variable_word : (number offset word : ℕ) → State → Progress (List ℕ)
 write_variable_word number offset word s =
     within offset (length (variable_words s number)) (λ s'. goes_with [] (with_variable number (slice_set (variable_words s' number) offset word) s')) s
@@ -105,9 +108,9 @@ write_words c (in_element slot index) offset words s = store_words slot index of
 
 -- Words are read as values of their kinds. A swizzle of more than one letter reads the whole vector and then picks.
 abbrev pub read_reached : Context → Holder → Reached → State → Progress (List ℕ)
-read_reached c holder at s =
-    after (read_words c holder at.offset (words_of c.scope.structs at.ty) s)
-    (λ words s'. goes_with (picked at.letters (map_2 word_as (kinds_of c.scope.structs at.ty) words)) s')
+read_reached c holder from s =
+    after (read_words c holder from.offset (words_of c.scope.structs from.ty) s)
+    (λ words s'. goes_with (picked from.letters (map_2 word_as (kinds_of c.scope.structs from.ty) words)) s')
 
 -- A swizzle of more than one letter writes its components one by one, in the order of the letters.
 abbrev pub write_letters : Context → Holder → (offset : ℕ) → (letters : List ℕ) → List ℕ → State → Progress (List ℕ)
@@ -118,24 +121,24 @@ write_letters c holder offset letters words s =
 -- the value of a place, with the words of its indexes
 abbrev pub read_place : Context → Location → (indexes : List ℕ) → State → Progress (List ℕ)
 read_place c location indexes s =
-    let place = place_of c location indexes in read_reached c place.holder place.at s
+    let place = place_of c location indexes in read_reached c place.holder place.reached s
 
 -- a value written to a place
 abbrev pub write_place : Context → Location → (indexes : List ℕ) → List ℕ → State → Progress (List ℕ)
 write_place c location indexes words s =
-    let place = place_of c location indexes in write_letters c place.holder place.at.offset place.at.letters words s
+    let place = place_of c location indexes in write_letters c place.holder place.reached.offset place.reached.letters words s
 
 -- atomic operations (HLSL, "Intrinsic Functions"), each one event, whose reply is the word that was there before
 
 -- on a word of a groupshared variable: an operation of a kind, or else a compare exchange
 abbrev pub shared_atomic : Cell → Option AtomicKind → (compare word : ℕ) → Event
-shared_atomic at (Some kind) compare word = SharedAtomic at kind word
-shared_atomic at None compare word = SharedCompareExchange at compare word
+shared_atomic target (Some kind) compare word = SharedAtomic target kind word
+shared_atomic target None compare word = SharedCompareExchange target compare word
 
 -- the same on a word of a buffer
 abbrev pub buffer_atomic : Slot → (index byte_offset : ℕ) → Option AtomicKind → (compare word : ℕ) → Event
-buffer_atomic slot index at (Some kind) compare word = BufferAtomic slot index at kind word
-buffer_atomic slot index at None compare word = BufferCompareExchange slot index at compare word
+buffer_atomic slot index offset (Some kind) compare word = BufferAtomic slot index offset kind word
+buffer_atomic slot index offset None compare word = BufferCompareExchange slot index offset compare word
 
 -- An atomic operation works on groupshared variables and elements of buffers. No well-formed program has another
 -- target.

@@ -23,7 +23,7 @@ pub record Reached : Type 0 where
 abbrev pub start_of : Ty → Reached
 start_of ty = record { ty = ty; offset = 0; letters = [] }
 
--- something of a type, so many words behind a place
+-- something of a type, which begins so many words behind what was reached
 abbrev pub further : Reached → (ty : Ty) → (words : ℕ) → Reached
 further from ty words = record { ty = ty; offset = wrapping_add from.offset words; letters = [] }
 
@@ -38,29 +38,29 @@ element_of (array_type element length) = element
 element_of ty = scalar_type (component_kind ty)
 
 -- a member stands at its offset in its struct; no well-formed program steps to none
-abbrev pub at_member : Reached → Option Member → Reached
-at_member from None = from
-at_member from (Some m) = further from m.ty m.offset
+abbrev pub step_to_member : Reached → Option Member → Reached
+step_to_member from None = from
+step_to_member from (Some m) = further from m.ty m.offset
 
 -- an element stands at its index times the words of an element
-abbrev pub at_index : List StructDef → Reached → (index : ℕ) → Reached
-at_index structs from index =
+abbrev pub step_to_element : List StructDef → Reached → (index : ℕ) → Reached
+step_to_element structs from index =
     further from (element_of from.ty) (wrapping_mul index (words_of structs (element_of from.ty)))
 
 -- A swizzle of one letter leads to the component of the letter; a longer one stays where it stands.
-abbrev pub at_swizzle : Reached → (letters : List ℕ) → Reached
-at_swizzle from (letter ∷ []) = further from (scalar_type (component_kind from.ty)) letter
-at_swizzle from letters = record from { letters = letters }
+abbrev pub step_to_letters : Reached → (letters : List ℕ) → Reached
+step_to_letters from (letter ∷ []) = further from (scalar_type (component_kind from.ty)) letter
+step_to_letters from letters = record from { letters = letters }
 
 -- where steps lead to, with the words of the indexes in them
 abbrev pub reached : List StructDef → Reached → PathParts → (indexes : List ℕ) → Reached
 reached structs from no_parts indexes = from
 reached structs from (more_parts (member_part number) rest) indexes =
-    reached structs (at_member from (member_of structs from.ty number)) rest indexes
+    reached structs (step_to_member from (member_of structs from.ty number)) rest indexes
 reached structs from (more_parts (index_part index) rest) indexes =
-    reached structs (at_index structs from (slice_index indexes 0)) rest (drop 1 indexes)
+    reached structs (step_to_element structs from (slice_index indexes 0)) rest (drop 1 indexes)
 reached structs from (more_parts (swizzle_part letters) rest) indexes =
-    reached structs (at_swizzle from letters) rest indexes
+    reached structs (step_to_letters from letters) rest indexes
 
 -- what a place stands in
 pub data Holder : Type 0 where
@@ -69,10 +69,10 @@ pub data Holder : Type 0 where
   in_shared : (number : ℕ) → Holder
   in_element : (slot : Slot) (index : ℕ) → Holder
 
--- a place: what it stands in, and where in it
+-- a place: what it stands in, and where in it its steps lead
 pub record Place : Type 0 where
   pub holder : Holder
-  pub at : Reached
+  pub reached : Reached
 
 -- the slot of a buffer; no well-formed program names one that isn't there
 abbrev pub slot_of : Context → (resource : ℕ) → Slot
@@ -85,6 +85,7 @@ holder_of c (constant_root number) indexes = in_constant number
 holder_of c (shared_root number) indexes = in_shared number
 holder_of c (element_root resource index) indexes = in_element (slot_of c resource) (slice_index indexes 0)
 
+-- the indexes of the steps of a place: all but that of an element
 abbrev pub indexes_of_steps : Root → (indexes : List ℕ) → List ℕ
 indexes_of_steps (element_root resource index) indexes = drop 1 indexes
 indexes_of_steps _ indexes = indexes
@@ -97,12 +98,12 @@ type_of_root c root = unwrap_or (root_type c.scope root) void_type
 abbrev pub place_of : Context → Location → (indexes : List ℕ) → Place
 place_of c (a_location ty root parts) indexes = record {
   holder = holder_of c root indexes;
-  at = reached c.scope.structs (start_of (type_of_root c root)) parts (indexes_of_steps root indexes);
+  reached = reached c.scope.structs (start_of (type_of_root c root)) parts (indexes_of_steps root indexes);
 }
 
 -- the word of a literal; no well-formed program picks by an index that is none
 abbrev pub literal_word : Expr → ℕ
-literal_word (an_expr ty at (literal_form word)) = word
+literal_word (an_expr ty _ (literal_form word)) = word
 literal_word _ = 0
 
 -- the words of indexes that are literals
@@ -112,10 +113,10 @@ literal_indexes (more_parts (index_part index) rest) = literal_word index ∷ li
 literal_indexes (more_parts part rest) = literal_indexes rest
 
 -- what steps pick of the words of a value
-abbrev pub picked_at : List StructDef → Reached → List ℕ → List ℕ
-picked_at structs at words = picked at.letters (take (words_of structs at.ty) (drop at.offset words))
+abbrev pub picked_reached : List StructDef → Reached → List ℕ → List ℕ
+picked_reached structs from words = picked from.letters (take (words_of structs from.ty) (drop from.offset words))
 
 -- Members, elements and components of a value are picked like those of a place. Its indexes are literals.
 abbrev pub picked_words : List StructDef → Ty → PathParts → List ℕ → List ℕ
 picked_words structs ty parts words =
-    picked_at structs (reached structs (start_of ty) parts (literal_indexes parts)) words
+    picked_reached structs (reached structs (start_of ty) parts (literal_indexes parts)) words

@@ -36,8 +36,8 @@ component_kind (scalar_type kind) = kind
 component_kind (vector_type kind size) = kind
 component_kind _ = UintKind
 
--- A word as a value of a kind. A bool is 0 or 1, by whether the word differs from 0; int and uint have the same bits.
--- So a number converts to bool, a bool to a number, and so a word in memory is read.
+-- A word as a value of a kind. A bool is 0 or 1, by whether the word differs from 0 (`holds`); int and uint have the
+-- same bits. So a number converts to bool, a bool to a number, and so a word in memory is read.
 abbrev pub word_as : Kind → ℕ → ℕ
 word_as BoolKind word = truth (holds word)
 word_as _ word = word
@@ -58,6 +58,7 @@ abbrev pub by_sign : {A : Type 0} → A → A → Kind → A
 by_sign when_signed when_unsigned IntKind = when_signed
 by_sign when_signed when_unsigned _ = when_unsigned
 
+-- whether a word is less than another, both read as words of a kind
 abbrev pub less : Kind → ℕ → ℕ → Bool
 less kind = by_sign signed_less unsigned_less kind
 
@@ -96,6 +97,7 @@ abbrev pub binary_word : (op : ℕ) → Kind → ℕ → ℕ → Result ℕ Lane
 binary_word op =
     option_map_or (λ o. o.compute) (find (λ o. o.mark == op) binary_operators) (λ kind a b. Ok 0)
 
+-- what an operator computes of two values, component by component, or its first fault
 abbrev pub binary_words : (op : ℕ) → Kind → List ℕ → List ℕ → Result (List ℕ) LaneFault
 binary_words op kind left right = all_ok (map_2 (binary_word op kind) left right)
 
@@ -106,7 +108,7 @@ unary_word op word =
     if op == 20 then complement word else (
     if op == 19 then truth (not (holds word)) else word))
 
--- `?:` takes each component by that of its condition
+-- `?:` takes each component by whether that of its condition differs from 0
 abbrev pub chosen_word : (cond consequent alternative : ℕ) → ℕ
 chosen_word condition consequent alternative = if holds condition then consequent else alternative
 

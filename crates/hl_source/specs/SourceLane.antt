@@ -20,9 +20,9 @@ use Rattle.hl_source.specs.Statements.{Leaving, by_return, does_all}
 
 -- The value that a body is left with, which has no words where it comes to its end. No well-formed body is left by
 -- `break` or `continue`.
-abbrev pub value_of : Leaving → List ℕ
-value_of (by_return value) = value
-value_of _ = []
+abbrev pub returned_value : Leaving → List ℕ
+returned_value (by_return value) = value
+returned_value _ = []
 
 -- A function starts with the words of its parameters, whose variables are its first ones. Its other variables are set
 -- where they are declared; until then they are zeros.
@@ -35,7 +35,7 @@ first_state c f parameters exchange = record {
 -- a function as it is called, where each loop takes at most n turns
 abbrev pub callee_of : Context → (n : ℕ) → FunctionDef → Callee
 callee_of c n f parameters exchange =
-    after (does_all c n f.body (first_state c f parameters exchange)) (λ leaving s. goes_with (value_of leaving) s)
+    after (does_all c n f.body (first_state c f parameters exchange)) (λ leaving s. goes_with (returned_value leaving) s)
 
 -- what is known in a function that stands behind others
 abbrev pub context_of : Program → Lane → (earlier : List Callee) → FunctionDef → Context
@@ -55,11 +55,11 @@ callees_after p lane n earlier (f ∷ functions) =
 -- the inputs of the entry (HLSL, "Semantics")
 
 abbrev pub components : Coordinates → List ℕ
-components at = at.x ∷ at.y ∷ at.z ∷ []
+components place = place.x ∷ place.y ∷ place.z ∷ []
 
--- the threads of a group in each direction
-abbrev pub grid_of : List ℕ → Coordinates
-grid_of threads = record { x = slice_index threads 0; y = slice_index threads 1; z = slice_index threads 2 }
+-- three numbers as coordinates, as the threads of a group in each direction
+abbrev pub coordinates_of : List ℕ → Coordinates
+coordinates_of numbers = record { x = slice_index numbers 0; y = slice_index numbers 1; z = slice_index numbers 2 }
 
 -- a thread's place in the whole dispatch: its group times the threads of a group, and its place in the group
 abbrev pub dispatch_thread : (threads group thread : Coordinates) → Coordinates
@@ -86,7 +86,7 @@ semantic_components threads lane None = []
 abbrev pub input_words : Program → Lane → List Variable → Parameter → List ℕ
 input_words p lane variables parameter =
     take (component_count (unwrap_or (variable_type variables parameter.variable) void_type))
-    (map wrapped (semantic_components (grid_of p.threads) lane parameter.semantic))
+    (map wrapped (semantic_components (coordinates_of p.threads) lane parameter.semantic))
 
 -- the inputs of the entry, which is there in a well-formed program
 abbrev pub inputs : Program → Lane → Option FunctionDef → List (List ℕ)
@@ -95,10 +95,10 @@ inputs p lane (Some f) = map (input_words p lane f.variables) f.parameters
 
 -- the lane
 
--- where the run of the entry ends
-abbrev pub ended : Progress (List ℕ) → Run
-ended (goes_with value s) = standing s.exchange Ended
-ended (ends_at run) = run
+-- the run of the entry: it has ended where the entry returns
+abbrev pub entry_run : Progress (List ℕ) → Run
+entry_run (goes_with value s) = standing s.exchange Ended
+entry_run (ends_at run) = run
 
 -- the entry, as it is called; it is there in a well-formed program
 abbrev pub entry_of : Program → Lane → (n : ℕ) → Callee
@@ -109,4 +109,4 @@ entry_of p lane n = unwrap_or (slice_get (callees_after p lane n [] p.functions)
 -- event, or goes on past the bound.
 unfoldable pub source_lane : Program → LaneMeaning
 source_lane p n lane replies =
-    Some (ended (entry_of p lane n (inputs p lane (slice_get p.functions p.entry)) (first_exchange replies)))
+    Some (entry_run (entry_of p lane n (inputs p lane (slice_get p.functions p.entry)) (first_exchange replies)))

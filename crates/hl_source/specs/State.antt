@@ -66,7 +66,7 @@ asks event s = ask ends_at event s.exchange (λ reply exchange. goes_with reply 
 
 -- the low 32 bits of a word of a reply, and 0 where the reply has none
 abbrev pub reply_word : Reply → ℕ → ℕ
-reply_word reply place = wrapped (slice_index reply.words place)
+reply_word reply number = wrapped (slice_index reply.words number)
 
 -- the first words of a reply
 abbrev pub reply_words : (count : ℕ) → Reply → List ℕ
@@ -80,6 +80,7 @@ asks_word event s = after (asks event s) (λ reply s'. goes_with (reply_word rep
 abbrev pub variable_words : State → (number : ℕ) → List ℕ
 variable_words s number = unwrap_or (slice_get s.variables number) []
 
+-- the state in which a variable has these words
 abbrev pub with_variable : (number : ℕ) → List ℕ → State → State
 with_variable number words s = record s { variables = slice_set s.variables number words }
 

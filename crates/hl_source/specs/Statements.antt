@@ -13,39 +13,42 @@ pub data Leaving : Type 0 where
   by_continue : Leaving
   by_return : (value : List ℕ) → Leaving
 
--- a statement goes on with how it is left
+-- what a statement does to a state: it goes on with how it is left, or the run ends in it
 abbrev pub Doing : Type 0
 Doing = State → Progress Leaving
 
+-- a statement is left in this way, and nothing else happens
 abbrev pub leaves : Leaving → Doing
 leaves leaving s = goes_with leaving s
 
 -- what follows a statement: it runs where the statement comes to its end
-abbrev pub then_next : Doing → Leaving → Doing
-then_next next at_end s = next s
-then_next next leaving s = goes_with leaving s
+abbrev pub after_statement : Doing → Leaving → Doing
+after_statement next at_end s = next s
+after_statement next leaving s = goes_with leaving s
 
 -- what follows the body of a loop: it runs where the body comes to its end or continues
-abbrev pub then_turn : Doing → Leaving → Doing
-then_turn next at_end s = next s
-then_turn next by_continue s = next s
-then_turn next leaving s = goes_with leaving s
+abbrev pub after_body : Doing → Leaving → Doing
+after_body next at_end s = next s
+after_body next by_continue s = next s
+after_body next leaving s = goes_with leaving s
 
 -- what follows a turn of a loop: another turn; a `break` is the end of the loop
-abbrev pub then_loop : Doing → Leaving → Doing
-then_loop next at_end s = next s
-then_loop next by_continue s = next s
-then_loop next by_break s = goes_with at_end s
-then_loop next (by_return value) s = goes_with (by_return value) s
+abbrev pub after_turn : Doing → Leaving → Doing
+after_turn next at_end s = next s
+after_turn next by_continue s = next s
+after_turn next by_break s = goes_with at_end s
+after_turn next (by_return value) s = goes_with (by_return value) s
 
+-- one of two, by a truth value
 abbrev pub choice : Bool → Doing → Doing → Doing
 choice true consequent alternative = consequent
 choice false consequent alternative = alternative
 
--- the truth value of a condition; a `for` without one goes on
+-- the truth value of a condition: whether its word differs from 0 (`holds`)
 abbrev pub condition : Context → Expr → State → Progress Bool
 condition c cond s = after (evaluates c cond s) (λ words s'. goes_with (holds (slice_index words 0)) s')
 
+-- the same where there is a condition; a `for` without one goes on
 abbrev pub condition_if : Context → Option Expr → State → Progress Bool
 condition_if c None s = goes_with true s
 condition_if c (Some cond) s = condition c cond s
@@ -54,6 +57,7 @@ condition_if c (Some cond) s = condition c cond s
 abbrev pub computes : Context → Expr → Doing
 computes c value s = after (evaluates c value s) (λ _ s'. goes_with at_end s')
 
+-- the same where there is a value; a `for` may have no step
 abbrev pub computes_if : Context → Option Expr → Doing
 computes_if c None s = goes_with at_end s
 computes_if c (Some value) s = computes c value s
@@ -64,6 +68,7 @@ declares c variable None s = goes_with at_end (with_variable variable (map (λ _
 declares c variable (Some init) s =
     after (evaluates c init s) (λ words s'. goes_with at_end (with_variable variable words s'))
 
+-- a `return`, with a value or without one
 abbrev pub returns : Context → Option Expr → Doing
 returns c None s = goes_with (by_return []) s
 returns c (Some value) s = after (evaluates c value s) (λ words s'. goes_with (by_return words) s')
@@ -71,17 +76,17 @@ returns c (Some value) s = after (evaluates c value s) (λ words s'. goes_with (
 -- A loop of at most so many turns. With no turns left the run goes on past its bound, before a turn begins.
 abbrev pub turns : ℕ → (turn : Doing) → Doing
 turns zero turn s = out_of_turns s
-turns (suc n) turn s = after (turn s) (then_loop (turns n turn))
+turns (suc n) turn s = after (turn s) (after_turn (turns n turn))
 
 -- a turn of a `for` or a `while`: the condition, the body, and the step, also where the body continues
-abbrev pub tested_turn : Context → (cond : Option Expr) → (body : Doing) → (step : Option Expr) → Doing
-tested_turn c cond body step s =
-    after (condition_if c cond s) (λ goes_on. choice goes_on (λ s'. after (body s') (then_turn (computes_if c step))) (leaves by_break))
+abbrev pub for_turn : Context → (cond : Option Expr) → (body : Doing) → (step : Option Expr) → Doing
+for_turn c cond body step s =
+    after (condition_if c cond s) (λ goes_on. choice goes_on (λ s'. after (body s') (after_body (computes_if c step))) (leaves by_break))
 
 -- a turn of a `do`: the body, and then the condition, also where the body continues
-abbrev pub testing_turn : Context → (body : Doing) → (cond : Expr) → Doing
-testing_turn c body cond s =
-    after (body s) (then_turn (λ s'. after (condition c cond s') (λ goes_on. leaves (if goes_on then at_end else by_break))))
+abbrev pub do_turn : Context → (body : Doing) → (cond : Expr) → Doing
+do_turn c body cond s =
+    after (body s) (after_body (λ s'. after (condition c cond s') (λ goes_on. leaves (if goes_on then at_end else by_break))))
 
 abbrev mutual
   -- what a statement does, where each loop takes at most n turns
@@ -92,9 +97,9 @@ abbrev mutual
   does c n (if_stmt cond consequent alternative) s =
       after (condition c cond s) (λ is_true. choice is_true (λ s'. does c n consequent s') (λ s'. does_if c n alternative s'))
   does c n (for_stmt init cond step body) s =
-      after (does_all c n init s) (then_next (turns n (tested_turn c cond (λ s'. does c n body s') step)))
-  does c n (while_stmt cond body) s = turns n (tested_turn c (Some cond) (λ s'. does c n body s') None) s
-  does c n (do_stmt body cond) s = turns n (testing_turn c (λ s'. does c n body s') cond) s
+      after (does_all c n init s) (after_statement (turns n (for_turn c cond (λ s'. does c n body s') step)))
+  does c n (while_stmt cond body) s = turns n (for_turn c (Some cond) (λ s'. does c n body s') None) s
+  does c n (do_stmt body cond) s = turns n (do_turn c (λ s'. does c n body s') cond) s
   does c n break_stmt s = goes_with by_break s
   does c n continue_stmt s = goes_with by_continue s
   does c n (return_stmt value) s = returns c value s
@@ -102,8 +107,9 @@ abbrev mutual
   -- statements one after another
   pub does_all : Context → ℕ → Stmts → Doing
   does_all c n no_stmts s = goes_with at_end s
-  does_all c n (more_stmts first rest) s = after (does c n first s) (then_next (λ s'. does_all c n rest s'))
+  does_all c n (more_stmts first rest) s = after (does c n first s) (after_statement (λ s'. does_all c n rest s'))
 
+  -- what the statement behind `else` does, where there is one
   pub does_if : Context → ℕ → MaybeStmt → Doing
   does_if c n no_stmt s = goes_with at_end s
   does_if c n (some_stmt body) s = does c n body s

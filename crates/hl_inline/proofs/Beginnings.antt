@@ -22,10 +22,10 @@ use Rattle.hl_meaning.proofs.LayoutLemmas.{words-scalar, words-vector}
 use Rattle.hl_source.specs.State.{Context, Progress, State, after, goes_with, variable_words, with_variable}
 use Rattle.hl_source.specs.Statements.{at_end}
 use Rattle.hl_source.specs.Expressions.{acts, evaluates, values}
-use Rattle.hl_source.specs.SourceLane.{grid_of, input_words, semantic_components}
+use Rattle.hl_source.specs.SourceLane.{coordinates_of, input_words, semantic_components}
 use Rattle.hl_inline.specs.FlatTrees.{Flat, flat_input}
 use Rattle.hl_inline.specs.FlatLane.{FlatLeaving, flat_context, flat_end, then_flat}
-use Rattle.hl_inline.specs.Flattening.{constant_value, literals, set_constants, set_inputs}
+use Rattle.hl_inline.specs.InlinedPrograms.{constant_value, literals, set_constants, set_inputs}
 use Rattle.hl_inline.proofs.Induction.{Every}
 use Rattle.hl_inline.proofs.Relation.{count_by_sizes, sizes_at, sizes_in, sizes_set, words_set_other, words_set_same}
 use Rattle.hl_inline.proofs.Performing.{perform}
@@ -188,14 +188,14 @@ module _ (p : Program) (lane : Lane) (variables V : List Variable) (first : ℕ)
   abbrev taken : (components : List ℕ) → Option Ty → List ℕ
   taken components o = take (component_count (unwrap_or o void_type)) components
 
-  input_is : (d : Parameter) (i : Input variables d) → input_words p lane variables d ≡ take (component_count i.ty) (map wrapped (semantic_components (grid_of p.threads) lane (Some i.semantic)))
+  input_is : (d : Parameter) (i : Input variables d) → input_words p lane variables d ≡ take (component_count i.ty) (map wrapped (semantic_components (coordinates_of p.threads) lane (Some i.semantic)))
   input_is d i =
-      ap (taken (map wrapped (semantic_components (grid_of p.threads) lane d.semantic))) i.is_typed ∙
-      ap (λ o. take (component_count i.ty) (map wrapped (semantic_components (grid_of p.threads) lane o))) i.is_semantic
+      ap (taken (map wrapped (semantic_components (coordinates_of p.threads) lane d.semantic))) i.is_typed ∙
+      ap (λ o. take (component_count i.ty) (map wrapped (semantic_components (coordinates_of p.threads) lane o))) i.is_semantic
 
-  flat_input_is : (d : Parameter) (i : Input variables d) → taken (map wrapped (semantic_components (grid_of p.threads) lane (Some i.semantic))) (variable_type V (first + d.variable)) ≡ input_words p lane variables d
+  flat_input_is : (d : Parameter) (i : Input variables d) → taken (map wrapped (semantic_components (coordinates_of p.threads) lane (Some i.semantic))) (variable_type V (first + d.variable)) ≡ input_words p lane variables d
   flat_input_is d i =
-      ap (taken (map wrapped (semantic_components (grid_of p.threads) lane (Some i.semantic)))) (typed d.variable i.ty i.is_typed) ∙ sym (input_is d i)
+      ap (taken (map wrapped (semantic_components (coordinates_of p.threads) lane (Some i.semantic)))) (typed d.variable i.ty i.is_typed) ∙ sym (input_is d i)
 
   -- a parameter with a semantic is set
   one_input : (d : Parameter) (parameters : List Parameter) (semantic : Semantic) → d.semantic ≡ Some semantic → set_inputs first (d ∷ parameters) ≡ flat_input (first + d.variable) semantic ∷ set_inputs first parameters
@@ -212,10 +212,10 @@ module _ (p : Program) (lane : Lane) (variables V : List Variable) (first : ℕ)
       (inputs_run f n is_v is_threads (suc number) parameters (with_variable (first + number) (input_words p lane variables d) t) numbered.1 are.1 ∙
       ap (λ m. goes_with flat_end (written m (inputs_words p lane variables parameters) (with_variable (first + number) (input_words p lane variables d) t))) (plus_suc first number))))
     where
-      here : (i : Input variables d) → taken (map wrapped (semantic_components (grid_of f.threads) lane (Some i.semantic))) (variable_type f.variables (first + d.variable)) ≡ input_words p lane variables d
+      here : (i : Input variables d) → taken (map wrapped (semantic_components (coordinates_of f.threads) lane (Some i.semantic))) (variable_type f.variables (first + d.variable)) ≡ input_words p lane variables d
       here i =
-          ap (λ l. taken (map wrapped (semantic_components (grid_of f.threads) lane (Some i.semantic))) (variable_type l (first + d.variable))) is_v ∙
-          (ap (λ l. taken (map wrapped (semantic_components (grid_of l) lane (Some i.semantic))) (variable_type V (first + d.variable))) is_threads ∙ flat_input_is d i)
+          ap (λ l. taken (map wrapped (semantic_components (coordinates_of f.threads) lane (Some i.semantic))) (variable_type l (first + d.variable))) is_v ∙
+          (ap (λ l. taken (map wrapped (semantic_components (coordinates_of l) lane (Some i.semantic))) (variable_type V (first + d.variable))) is_threads ∙ flat_input_is d i)
 
   pub inputs_are : (c : Context) (number : ℕ) (parameters : List Parameter) → AreNumberedFrom number parameters → Every (IsInput variables) parameters → AreWords c V (first + number) (inputs_words p lane variables parameters)
   inputs_are c number [] numbered are = tt
@@ -226,5 +226,5 @@ module _ (p : Program) (lane : Lane) (variables V : List Variable) (first : ℕ)
       one i = (
         i.ty,
         typed number i.ty (subst (λ m. variable_type variables m ≡ Some i.ty) numbered.0 i.is_typed),
-        ap length (input_is d i) ∙ (components_length (grid_of p.threads) lane i.semantic i.ty i.suits ∙ numeric_words c.scope.structs i.ty (suits_numeric i.semantic i.ty i.suits)),
+        ap length (input_is d i) ∙ (components_length (coordinates_of p.threads) lane i.semantic i.ty i.suits ∙ numeric_words c.scope.structs i.ty (suits_numeric i.semantic i.ty i.suits)),
       )

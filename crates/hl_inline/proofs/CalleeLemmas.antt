@@ -9,10 +9,13 @@ use Rattle.hl_meaning.specs.declared.statement.Stmt.{Stmt}
 use Rattle.hl_meaning.specs.Programs.{FunctionDef}
 use Rattle.hl_meaning.specs.Types.{Ty}
 use Rattle.hl_meaning.specs.Views.{plain_function, plain_variable}
-use Rattle.hl_inline.specs.Flattening.{Argument, Fresh, Inlined, Instance, Valued, call, inlined, inlined_after, inlined_at, instance_of, next_of, nothing_inlined, pass_all, with_body, with_instance}
+use Rattle.hl_inline.specs.Emitting.{Valued}
+use Rattle.hl_inline.specs.Fresh.{Fresh, Instance, nameless, next_of}
+use Rattle.hl_inline.specs.InlinedCalls.{Argument, Inlined, call, inlined_at, instance_of, nothing_inlined, pass_all, with_body, with_instance}
+use Rattle.hl_inline.specs.InlinedFunctions.{inlined, inlined_after}
 use Rattle.hl_inline.specs.FlatTrees.{FlatStmt}
 use Rattle.hl_inline.specs.Building.{behind, inlined_all}
-use Rattle.hl_inline.proofs.Weights.{function_weight, stmt_weight, stmts_weight, weight_of}
+use Rattle.hl_source.proofs.Weights.{function_weight, stmt_weight, stmts_weight, weight_of}
 
 abbrev pub instance : (first result exit : ℕ) → Instance
 instance first result exit = record { first = first; result = result; exit = exit }
@@ -68,8 +71,8 @@ pub stands_at : (k : List Inlined) (f : held.FunctionDef) (fresh : Fresh) (first
     instance first result exit ≡ instance_of (inlined k (plain_function f)) fresh
 stands_at k f fresh first result exit a b d =
     ap (λ n. instance n result exit) a ∙
-    (ap (λ n. instance (next_of fresh) n exit) (b ∙ ap (λ n. next_of fresh + n) (sym (length-map f.variables plain_variable))) ∙
-    ap (λ n. instance (next_of fresh) (next_of fresh + length (map plain_variable f.variables)) n) d)
+    (ap (λ n. instance (next_of fresh) n exit) (b ∙ ap (λ n. next_of fresh + n) (sym (length-map (map plain_variable f.variables) nameless ∙ length-map f.variables plain_variable))) ∙
+    ap (λ n. instance (next_of fresh) (next_of fresh + length (map nameless (map plain_variable f.variables))) n) d)
 
 pub called : {A E : Type 0} (r : Result A E) (value : A → Valued) (code : List FlatStmt) (ty : Ty) (at : ℕ) (i : Instance) (args : List Argument) (fresh : Fresh) (g f : Inlined) (inner : Instance) (now : Fresh)
     → g ≡ f → inner ≡ instance_of f fresh → now ≡ with_instance f ty at fresh

@@ -13,7 +13,9 @@ use Rattle.hl_meaning.proofs.Plain.{plain_location-is, plain_ty-Array, plain_ty-
 use Rattle.hl_meaning.proofs.TypeLemmas.{type_cases}
 use Rattle.hl_inline.specs.Building.{behind, valued}
 use Rattle.hl_inline.specs.FlatTrees.{FlatStmt, flat_block, flat_named, no_flat_stmts}
-use Rattle.hl_inline.specs.Flattening.{Argument, Fresh, Instance, call, instance_of, next_of, nothing_inlined, nothing_passed, pass_all, place_argument, place_of_variable, reading, result_variables, start_value, unnamed, value_argument, with_body, with_instance, with_variables}
+use Rattle.hl_inline.specs.Emitting.{place_of_variable, reading}
+use Rattle.hl_inline.specs.Fresh.{Fresh, Instance, next_of, unnamed, with_variables}
+use Rattle.hl_inline.specs.InlinedCalls.{Argument, call, instance_of, nothing_inlined, nothing_passed, pass_all, place_argument, result_variables, start_value, value_argument, with_body, with_instance}
 
 -- no parameter takes an argument
 passed-none : (i : Instance) (at number : ℕ) (args : List Argument) (fresh : Fresh) → pass_all i at number args [] fresh ≡ nothing_passed fresh

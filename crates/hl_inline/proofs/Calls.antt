@@ -10,11 +10,13 @@ use Rattle.hl_meaning.specs.Places.{variable_type}
 use Rattle.hl_meaning.specs.Programs.{Variable}
 use Rattle.hl_source.specs.State.{Callee, Context, Progress, State, after, ends_at, goes_with, variable_words}
 use Rattle.hl_source.specs.Memory.{constant_words}
-use Rattle.hl_source.specs.Expressions.{arguments, calls, copies_out, evaluates, no_callee, parameters_of, starts}
+use Rattle.hl_source.specs.Expressions.{arguments, calls, copies_out, evaluates, initial_parameters, no_callee, parameters_of}
 use Rattle.hl_inline.specs.FlatTrees.{Flat, FlatStmt, flat_block, flat_named}
 use Rattle.hl_inline.specs.FlatViews.{flat_stmts_of}
 use Rattle.hl_inline.specs.FlatLane.{flat_context}
-use Rattle.hl_inline.specs.Flattening.{Emitter, Fresh, Inlined, Instance, Passed, Valued, call, instance_of, next_of, pass_all, reading, result_variables, unnamed, with_body, with_instance}
+use Rattle.hl_inline.specs.Emitting.{Emitter, Valued, reading}
+use Rattle.hl_inline.specs.Fresh.{Fresh, Instance, next_of, unnamed}
+use Rattle.hl_inline.specs.InlinedCalls.{Inlined, Passed, call, instance_of, pass_all, result_variables, with_body, with_instance}
 use Rattle.hl_inline.proofs.Relation.{Keeps, Related, Stands, flat_of_context, sizes_at, sizes_in}
 use Rattle.hl_inline.proofs.FittingWords.{Fits, reading_gives}
 use Rattle.hl_inline.proofs.Performing.{Opens, Runs, perform, runs_map, runs_then, runs_with}
@@ -121,9 +123,9 @@ module _ (c : Context) (V : List Variable) (first : ℕ) (stands : Stands c V fi
         (passing c V first stands f lane n known D em i is at (next_of fresh) args g.parameters args_ready typed (with_instance g ty at fresh) room
         (omega (arith, behind_instance, length-append g.variables (result_variables ty at), ready.fewer)) front s t r)
         (λ operands s1 t1 passed_as.
-        runs_then f lane n _ _ (body_code g (instance_of g fresh) passed.fresh) passed.copies t1 (slice_index_or c.callees function no_callee (starts operands) s1.exchange)
+        runs_then f lane n _ _ (body_code g (instance_of g fresh) passed.fresh) passed.copies t1 (slice_index_or c.callees function no_callee (initial_parameters operands) s1.exchange)
         (λ result ended. after (copies_out c args operands ended.variables (record s1 { exchange = ended.exchange })) (λ _ s2. goes_with result s2))
-        (ready.inlines.runs (instance_of g fresh) count passed.fresh place (starts operands) s1.exchange t1
+        (ready.inlines.runs (instance_of g fresh) count passed.fresh place (initial_parameters operands) s1.exchange t1
         (record { exchange = passed_as.related.exchange; flat_sizes = passed_as.related.flat_sizes; constants = passed_as.related.constants; held = passed_as.held; exact = passed_as.exact }))
         (λ result ended t2 ends.
         runs_giving _ _ (λ _. result) (copies_out c args operands ended.variables (record s1 { exchange = ended.exchange })) _

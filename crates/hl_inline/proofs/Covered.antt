@@ -8,98 +8,99 @@ use Rattle.hl_meaning.specs.Trees.{Arg, Args, Expr, Exprs, Form, Location, Maybe
 use Rattle.hl_meaning.specs.Places.{Scope, is_writable_place, path_type, root_type}
 use Rattle.hl_meaning.specs.WellFormed.{IsForm, IsOriginal, IsPlace, IsTarget}
 use Rattle.hl_source.specs.State.{Context}
-use Rattle.hl_inline.specs.IndexedVariables.{Mention, arg_mentions, args_mentions, call_mention, expr_if_mentions, expr_mentions, exprs_mentions, form_mentions, location_if_mentions, location_mentions, parts_mentions, place_mention, target_mentions}
-use Rattle.hl_inline.specs.Operands.{arg_exprs, args_exprs, expr_if_list, exprs_list, operand_exprs, parts_exprs, place_exprs, place_if_exprs, target_exprs}
+use Rattle.hl_inline.specs.Occurrences.{Occurrence, arg_occurrences, args_occurrences, call_occurrence, expr_if_occurrences, expr_occurrences, exprs_occurrences, form_occurrences, location_if_occurrences, location_occurrences, parts_occurrences, place_occurrence, target_occurrences}
+use Rattle.hl_inline.proofs.OperandExpressions.{arg_exprs, args_exprs, expr_if_list, exprs_list, operand_exprs, place_if_exprs}
+use Rattle.hl_inline.specs.Operands.{parts_exprs, place_exprs, target_exprs}
 use Rattle.hl_inline.proofs.Induction.{Every, every_append, every_back, every_front}
 use Rattle.hl_inline.proofs.Reading.{IsChangedPlace, IsInD, PlaceIn}
 use Rattle.hl_inline.proofs.Acts.{ChangedIn, FormIn, TargetIn}
 use Rattle.hl_inline.proofs.Typed.{never}
 
 -- a variable is one of D
-abbrev pub MentionIn : (D : ℕ → Type 0) → Mention → Type 0
-MentionIn D (place_mention root parts) = IsInD D root
-MentionIn D (call_mention function) = Unit {0}
+abbrev pub OccurrenceIn : (D : ℕ → Type 0) → Occurrence → Type 0
+OccurrenceIn D (place_occurrence root parts) = IsInD D root
+OccurrenceIn D (call_occurrence function) = Unit {0}
 
--- the variables of a text are among D
-abbrev pub Covers : (D : ℕ → Type 0) → List Mention → Type 0
-Covers D text = Every (MentionIn D) text
+-- the variables among occurrences are among D
+abbrev pub Covers : (D : ℕ → Type 0) → List Occurrence → Type 0
+Covers D occurrences = Every (OccurrenceIn D) occurrences
 
 abbrev pub CoversExpr : (D : ℕ → Type 0) → Expr → Type 0
-CoversExpr D e = Covers D (expr_mentions e)
+CoversExpr D e = Covers D (expr_occurrences e)
 
 -- operands
 
-exprs_covered : (D : ℕ → Type 0) (es : Exprs) → Covers D (exprs_mentions es) → Every (CoversExpr D) (exprs_list es)
+exprs_covered : (D : ℕ → Type 0) (es : Exprs) → Covers D (exprs_occurrences es) → Every (CoversExpr D) (exprs_list es)
 exprs_covered D no_exprs h = tt
 exprs_covered D (more_exprs first rest) h =
-    (every_front (MentionIn D) (expr_mentions first) (exprs_mentions rest) h, exprs_covered D rest (every_back (MentionIn D) (expr_mentions first) (exprs_mentions rest) h))
+    (every_front (OccurrenceIn D) (expr_occurrences first) (exprs_occurrences rest) h, exprs_covered D rest (every_back (OccurrenceIn D) (expr_occurrences first) (exprs_occurrences rest) h))
 
-expr_if_covered : (D : ℕ → Type 0) (value : MaybeExpr) → Covers D (expr_if_mentions value) → Every (CoversExpr D) (expr_if_list value)
+expr_if_covered : (D : ℕ → Type 0) (value : MaybeExpr) → Covers D (expr_if_occurrences value) → Every (CoversExpr D) (expr_if_list value)
 expr_if_covered D no_expr h = tt
 expr_if_covered D (some_expr value) h = (h, tt)
 
-parts_covered : (D : ℕ → Type 0) (parts : PathParts) → Covers D (parts_mentions parts) → Every (CoversExpr D) (parts_exprs parts)
+parts_covered : (D : ℕ → Type 0) (parts : PathParts) → Covers D (parts_occurrences parts) → Every (CoversExpr D) (parts_exprs parts)
 parts_covered D no_parts h = tt
 parts_covered D (more_parts (index_part index) rest) h =
-    (every_front (MentionIn D) (expr_mentions index) (parts_mentions rest) h, parts_covered D rest (every_back (MentionIn D) (expr_mentions index) (parts_mentions rest) h))
+    (every_front (OccurrenceIn D) (expr_occurrences index) (parts_occurrences rest) h, parts_covered D rest (every_back (OccurrenceIn D) (expr_occurrences index) (parts_occurrences rest) h))
 parts_covered D (more_parts (member_part number) rest) h = parts_covered D rest h
 parts_covered D (more_parts (swizzle_part letters) rest) h = parts_covered D rest h
 
-pub place_covered : (D : ℕ → Type 0) (place : Location) → Covers D (location_mentions place) → Every (CoversExpr D) (place_exprs place)
+pub place_covered : (D : ℕ → Type 0) (place : Location) → Covers D (location_occurrences place) → Every (CoversExpr D) (place_exprs place)
 place_covered D (a_location ty (variable_root number) parts) h = parts_covered D parts h.1
 place_covered D (a_location ty (constant_root number) parts) h = parts_covered D parts h.1
 place_covered D (a_location ty (shared_root number) parts) h = parts_covered D parts h.1
 place_covered D (a_location ty (element_root resource index) parts) h =
-    (every_front (MentionIn D) (expr_mentions index) (parts_mentions parts) h.1, parts_covered D parts (every_back (MentionIn D) (expr_mentions index) (parts_mentions parts) h.1))
+    (every_front (OccurrenceIn D) (expr_occurrences index) (parts_occurrences parts) h.1, parts_covered D parts (every_back (OccurrenceIn D) (expr_occurrences index) (parts_occurrences parts) h.1))
 
-place_if_covered : (D : ℕ → Type 0) (place : MaybeLocation) → Covers D (location_if_mentions place) → Every (CoversExpr D) (place_if_exprs place)
+place_if_covered : (D : ℕ → Type 0) (place : MaybeLocation) → Covers D (location_if_occurrences place) → Every (CoversExpr D) (place_if_exprs place)
 place_if_covered D no_location h = tt
 place_if_covered D (some_location place) h = place_covered D place h
 
-target_covered : (D : ℕ → Type 0) (target : Target) → Covers D (target_mentions target) → Every (CoversExpr D) (target_exprs target)
+target_covered : (D : ℕ → Type 0) (target : Target) → Covers D (target_occurrences target) → Every (CoversExpr D) (target_exprs target)
 target_covered D (place_target place) h = place_covered D place h
 target_covered D (bytes_target resource address) h = (h, tt)
 
-arg_covered : (D : ℕ → Type 0) (arg : Arg) → Covers D (arg_mentions arg) → Every (CoversExpr D) (arg_exprs arg)
+arg_covered : (D : ℕ → Type 0) (arg : Arg) → Covers D (arg_occurrences arg) → Every (CoversExpr D) (arg_exprs arg)
 arg_covered D (value_arg value) h = (h, tt)
 arg_covered D (place_arg place) h = place_covered D place h
 
-args_covered : (D : ℕ → Type 0) (args : Args) → Covers D (args_mentions args) → Every (CoversExpr D) (args_exprs args)
+args_covered : (D : ℕ → Type 0) (args : Args) → Covers D (args_occurrences args) → Every (CoversExpr D) (args_exprs args)
 args_covered D no_args h = tt
 args_covered D (more_args first rest) h =
-    every_append (CoversExpr D) (arg_exprs first) (args_exprs rest) (arg_covered D first (every_front (MentionIn D) (arg_mentions first) (args_mentions rest) h))
-    (args_covered D rest (every_back (MentionIn D) (arg_mentions first) (args_mentions rest) h))
+    every_append (CoversExpr D) (arg_exprs first) (args_exprs rest) (arg_covered D first (every_front (OccurrenceIn D) (arg_occurrences first) (args_occurrences rest) h))
+    (args_covered D rest (every_back (OccurrenceIn D) (arg_occurrences first) (args_occurrences rest) h))
 
-pub operands_covered : (D : ℕ → Type 0) (form : Form) → Covers D (form_mentions form) → Every (CoversExpr D) (operand_exprs form)
+pub operands_covered : (D : ℕ → Type 0) (form : Form) → Covers D (form_occurrences form) → Every (CoversExpr D) (operand_exprs form)
 operands_covered D (literal_form word) h = tt
 operands_covered D (read_form place) h = place_covered D place h
 operands_covered D (write_form to op common value old) h =
-    every_append (CoversExpr D) (place_exprs to) (value ∷ []) (place_covered D to (every_front (MentionIn D) (location_mentions to) (expr_mentions value) h))
-    (every_back (MentionIn D) (location_mentions to) (expr_mentions value) h, tt)
+    every_append (CoversExpr D) (place_exprs to) (value ∷ []) (place_covered D to (every_front (OccurrenceIn D) (location_occurrences to) (expr_occurrences value) h))
+    (every_back (OccurrenceIn D) (location_occurrences to) (expr_occurrences value) h, tt)
 operands_covered D (convert_form value) h = (h, tt)
 operands_covered D (unary_form op value) h = (h, tt)
 operands_covered D (binary_form op left right) h =
-    (every_front (MentionIn D) (expr_mentions left) (expr_mentions right) h, (every_back (MentionIn D) (expr_mentions left) (expr_mentions right) h, tt))
+    (every_front (OccurrenceIn D) (expr_occurrences left) (expr_occurrences right) h, (every_back (OccurrenceIn D) (expr_occurrences left) (expr_occurrences right) h, tt))
 operands_covered D (choose_form cond consequent alternative) h =
-    let rest = every_back (MentionIn D) (expr_mentions cond) (expr_mentions consequent ++ expr_mentions alternative) h in (
-      every_front (MentionIn D) (expr_mentions cond) (expr_mentions consequent ++ expr_mentions alternative) h,
-      (every_front (MentionIn D) (expr_mentions consequent) (expr_mentions alternative) rest, (every_back (MentionIn D) (expr_mentions consequent) (expr_mentions alternative) rest, tt)),
+    let rest = every_back (OccurrenceIn D) (expr_occurrences cond) (expr_occurrences consequent ++ expr_occurrences alternative) h in (
+      every_front (OccurrenceIn D) (expr_occurrences cond) (expr_occurrences consequent ++ expr_occurrences alternative) h,
+      (every_front (OccurrenceIn D) (expr_occurrences consequent) (expr_occurrences alternative) rest, (every_back (OccurrenceIn D) (expr_occurrences consequent) (expr_occurrences alternative) rest, tt)),
     )
 operands_covered D (build_form parts) h = exprs_covered D parts h
-operands_covered D (pick_form value parts) h = (every_front (MentionIn D) (expr_mentions value) (parts_mentions parts) h, tt)
-operands_covered D (call_form function args) h = args_covered D args (every_front (MentionIn D) (args_mentions args) (call_mention function ∷ []) h)
+operands_covered D (pick_form value parts) h = (every_front (OccurrenceIn D) (expr_occurrences value) (parts_occurrences parts) h, tt)
+operands_covered D (call_form function args) h = args_covered D args (every_front (OccurrenceIn D) (args_occurrences args) (call_occurrence function ∷ []) h)
 operands_covered D (intrinsic_form number args) h = exprs_covered D args h
 operands_covered D (method_form resource count address value) h =
-    (every_front (MentionIn D) (expr_mentions address) (expr_if_mentions value) h, expr_if_covered D value (every_back (MentionIn D) (expr_mentions address) (expr_if_mentions value) h))
+    (every_front (OccurrenceIn D) (expr_occurrences address) (expr_if_occurrences value) h, expr_if_covered D value (every_back (OccurrenceIn D) (expr_occurrences address) (expr_if_occurrences value) h))
 operands_covered D (atomic_form target kind compare value original) h =
-    let behind_target = every_back (MentionIn D) (target_mentions target) (expr_if_mentions compare ++ (expr_mentions value ++ location_if_mentions original)) h in
-    let behind_compare = every_back (MentionIn D) (expr_if_mentions compare) (expr_mentions value ++ location_if_mentions original) behind_target in
+    let behind_target = every_back (OccurrenceIn D) (target_occurrences target) (expr_if_occurrences compare ++ (expr_occurrences value ++ location_if_occurrences original)) h in
+    let behind_compare = every_back (OccurrenceIn D) (expr_if_occurrences compare) (expr_occurrences value ++ location_if_occurrences original) behind_target in
     every_append (CoversExpr D) (target_exprs target) (expr_if_list compare ++ value ∷ place_if_exprs original)
-    (target_covered D target (every_front (MentionIn D) (target_mentions target) (expr_if_mentions compare ++ (expr_mentions value ++ location_if_mentions original)) h))
+    (target_covered D target (every_front (OccurrenceIn D) (target_occurrences target) (expr_if_occurrences compare ++ (expr_occurrences value ++ location_if_occurrences original)) h))
     (every_append (CoversExpr D) (expr_if_list compare) (value ∷ place_if_exprs original)
-    (expr_if_covered D compare (every_front (MentionIn D) (expr_if_mentions compare) (expr_mentions value ++ location_if_mentions original) behind_target)) (
-      every_front (MentionIn D) (expr_mentions value) (location_if_mentions original) behind_compare,
-      place_if_covered D original (every_back (MentionIn D) (expr_mentions value) (location_if_mentions original) behind_compare),
+    (expr_if_covered D compare (every_front (OccurrenceIn D) (expr_if_occurrences compare) (expr_occurrences value ++ location_if_occurrences original) behind_target)) (
+      every_front (OccurrenceIn D) (expr_occurrences value) (location_if_occurrences original) behind_compare,
+      place_if_covered D original (every_back (OccurrenceIn D) (expr_occurrences value) (location_if_occurrences original) behind_compare),
     ))
 
 -- places of a form itself
@@ -111,7 +112,7 @@ root_of_place s root parts ty h = by_root (root_type s root) refl h
     by_root None is h = absurd (none-some ty h)
     by_root (Some t) is h = (t, is)
 
-pub place_in : (c : Context) (D : ℕ → Type 0) (place : Location) → IsPlace c.scope place → Covers D (location_mentions place) → PlaceIn c D place
+pub place_in : (c : Context) (D : ℕ → Type 0) (place : Location) → IsPlace c.scope place → Covers D (location_occurrences place) → PlaceIn c D place
 place_in c D (a_location ty root parts) h covers = let r = root_of_place c.scope root parts ty h.3 in (r.0, r.1, covers.0)
 
 pub place_changed : (s : Scope) (place : Location) → IsTrue (is_writable_place s place) → IsChangedPlace place
@@ -120,20 +121,20 @@ place_changed s (a_location ty (constant_root number) parts) h = never h
 place_changed s (a_location ty (shared_root number) parts) h = tt
 place_changed s (a_location ty (element_root resource index) parts) h = tt
 
-target_in : (c : Context) (D : ℕ → Type 0) (ty : Ty) (target : Target) → IsTarget c.scope ty target → Covers D (target_mentions target) → TargetIn c D target
+target_in : (c : Context) (D : ℕ → Type 0) (ty : Ty) (target : Target) → IsTarget c.scope ty target → Covers D (target_occurrences target) → TargetIn c D target
 target_in c D ty (place_target place) h covers = place_in c D place h.0 covers
 target_in c D ty (bytes_target resource address) h covers = tt
 
-original_in : (c : Context) (D : ℕ → Type 0) (target : Target) (kind : Option AtomicKind) (original : MaybeLocation) → IsOriginal c.scope target kind original → Covers D (location_if_mentions original) → ChangedIn c D original
+original_in : (c : Context) (D : ℕ → Type 0) (target : Target) (kind : Option AtomicKind) (original : MaybeLocation) → IsOriginal c.scope target kind original → Covers D (location_if_occurrences original) → ChangedIn c D original
 original_in c D target kind no_location h covers = tt
 original_in c D (place_target place) kind (some_location original) h covers = (place_in c D original h.0 covers, place_changed c.scope original h.1)
 original_in c D (bytes_target resource address) kind (some_location original) h covers = (place_in c D original h.0 covers, place_changed c.scope original h.1)
 
-pub form_in : (c : Context) (D : ℕ → Type 0) (ty : Ty) (form : Form) → IsForm c.scope ty form → Covers D (form_mentions form) → FormIn c D form
+pub form_in : (c : Context) (D : ℕ → Type 0) (ty : Ty) (form : Form) → IsForm c.scope ty form → Covers D (form_occurrences form) → FormIn c D form
 form_in c D ty (literal_form word) h covers = tt
 form_in c D ty (read_form place) h covers = place_in c D place h.0 covers
 form_in c D ty (write_form to op common value old) h covers =
-    (place_in c D to h.0 (every_front (MentionIn D) (location_mentions to) (expr_mentions value) covers), place_changed c.scope to h.1)
+    (place_in c D to h.0 (every_front (OccurrenceIn D) (location_occurrences to) (expr_occurrences value) covers), place_changed c.scope to h.1)
 form_in c D ty (convert_form value) h covers = tt
 form_in c D ty (unary_form op value) h covers = tt
 form_in c D ty (binary_form op left right) h covers = tt
@@ -144,8 +145,8 @@ form_in c D ty (call_form function args) h covers = tt
 form_in c D ty (intrinsic_form number args) h covers = tt
 form_in c D ty (method_form resource count address value) h covers = tt
 form_in c D ty (atomic_form target kind compare value original) h covers =
-    let behind_target = every_back (MentionIn D) (target_mentions target) (expr_if_mentions compare ++ (expr_mentions value ++ location_if_mentions original)) covers in
-    let behind_compare = every_back (MentionIn D) (expr_if_mentions compare) (expr_mentions value ++ location_if_mentions original) behind_target in (
-      target_in c D (type_of value) target h.1 (every_front (MentionIn D) (target_mentions target) (expr_if_mentions compare ++ (expr_mentions value ++ location_if_mentions original)) covers),
-      original_in c D target kind original h.5 (every_back (MentionIn D) (expr_mentions value) (location_if_mentions original) behind_compare),
+    let behind_target = every_back (OccurrenceIn D) (target_occurrences target) (expr_if_occurrences compare ++ (expr_occurrences value ++ location_if_occurrences original)) covers in
+    let behind_compare = every_back (OccurrenceIn D) (expr_if_occurrences compare) (expr_occurrences value ++ location_if_occurrences original) behind_target in (
+      target_in c D (type_of value) target h.1 (every_front (OccurrenceIn D) (target_occurrences target) (expr_if_occurrences compare ++ (expr_occurrences value ++ location_if_occurrences original)) covers),
+      original_in c D target kind original h.5 (every_back (OccurrenceIn D) (expr_occurrences value) (location_if_occurrences original) behind_compare),
     )

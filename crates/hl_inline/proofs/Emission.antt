@@ -16,7 +16,8 @@ use Rattle.hl_source.specs.Statements.{at_end}
 use Rattle.hl_source.specs.Expressions.{evaluates}
 use Rattle.hl_inline.specs.FlatTrees.{Flat, FlatStmt, flat_local}
 use Rattle.hl_inline.specs.FlatLane.{FlatLeaving, flat_context, flat_done, flat_end, then_flat}
-use Rattle.hl_inline.specs.Flattening.{Emitter, Fresh, Valued, Values, any_calls, emit_all, next_of, saved, settled, token_of, unnamed, values_with}
+use Rattle.hl_inline.specs.Emitting.{Emitter, Valued, Values, any_call, emit_all, saved, settled, token_of, values_with}
+use Rattle.hl_inline.specs.Fresh.{Fresh, next_of, unnamed}
 use Rattle.hl_inline.proofs.Induction.{Every}
 use Rattle.hl_inline.proofs.ProgressLemmas.{giving}
 use Rattle.hl_inline.proofs.OperandLemmas.{evaluate_all}
@@ -105,7 +106,7 @@ module _ (c : Context) (V : List Variable) (first : ℕ) (stands : Stands c V fi
     pub grows : (fresh : Fresh) → IsFront fresh.variables (em.emit fresh).fresh.variables
     pub names : (fresh : Fresh) → fresh.names ≤ (em.emit fresh).fresh.names
     pub typed : (fresh : Fresh) → type_of (em.emit fresh).value ≡ type_of e
-    pub quiet : em.calls ≡ false → (fresh : Fresh) → (em.emit fresh).code ≡ []
+    pub quiet : em.has_call ≡ false → (fresh : Fresh) → (em.emit fresh).code ≡ []
     pub opens : (fresh : Fresh) → HasRoom fresh (em.emit fresh).fresh → OpensAs D e fresh (em.emit fresh)
     pub closes : (fresh : Fresh) → (em.emit fresh).fixed ≡ true → HasRoom fresh (em.emit fresh).fresh → ClosesAs D e fresh (em.emit fresh)
 
@@ -215,33 +216,33 @@ module _ (c : Context) (V : List Variable) (first : ℕ) (stands : Stands c V fi
   all_grow D em [] emits further fresh = front_refl fresh.variables
   all_grow D em (e ∷ es) emits further fresh =
       front_trans fresh.variables ((em e).emit fresh).fresh.variables _ (emits.0.grows fresh)
-      (front_trans ((em e).emit fresh).fresh.variables (settled (further || any_calls (map em es)) ((em e).emit fresh)).fresh.variables _
-      (settled_grows (further || any_calls (map em es)) ((em e).emit fresh))
-      (all_grow D em es emits.1 further (settled (further || any_calls (map em es)) ((em e).emit fresh)).fresh))
+      (front_trans ((em e).emit fresh).fresh.variables (settled (further || any_call (map em es)) ((em e).emit fresh)).fresh.variables _
+      (settled_grows (further || any_call (map em es)) ((em e).emit fresh))
+      (all_grow D em es emits.1 further (settled (further || any_call (map em es)) ((em e).emit fresh)).fresh))
 
   pub all_names : (D : ℕ → Type 0) (em : Expr → Emitter) (es : List Expr) → Every (λ e. Emits D e (em e)) es → (further : Bool) (fresh : Fresh) →
       fresh.names ≤ (emit_all further (map em es) fresh).fresh.names
   all_names D em [] emits further fresh = omega arith
   all_names D em (e ∷ es) emits further fresh =
-      omega (arith, emits.0.names fresh, settled_names (further || any_calls (map em es)) ((em e).emit fresh), all_names D em es emits.1 further (settled (further || any_calls (map em es)) ((em e).emit fresh)).fresh)
+      omega (arith, emits.0.names fresh, settled_names (further || any_call (map em es)) ((em e).emit fresh), all_names D em es emits.1 further (settled (further || any_call (map em es)) ((em e).emit fresh)).fresh)
 
   pub all_typed : (D : ℕ → Type 0) (em : Expr → Emitter) (es : List Expr) → Every (λ e. Emits D e (em e)) es → (further : Bool) (fresh : Fresh) →
       map type_of (emit_all further (map em es) fresh).values ≡ map type_of es
   all_typed D em [] emits further fresh = refl
   all_typed D em (e ∷ es) emits further fresh =
-      ap (λ ty. ty ∷ map type_of (emit_all further (map em es) (settled (further || any_calls (map em es)) ((em e).emit fresh)).fresh).values)
-      (settled_typed (further || any_calls (map em es)) ((em e).emit fresh) ∙ emits.0.typed fresh) ∙
-      ap (λ tys. type_of e ∷ tys) (all_typed D em es emits.1 further (settled (further || any_calls (map em es)) ((em e).emit fresh)).fresh)
+      ap (λ ty. ty ∷ map type_of (emit_all further (map em es) (settled (further || any_call (map em es)) ((em e).emit fresh)).fresh).values)
+      (settled_typed (further || any_call (map em es)) ((em e).emit fresh) ∙ emits.0.typed fresh) ∙
+      ap (λ tys. type_of e ∷ tys) (all_typed D em es emits.1 further (settled (further || any_call (map em es)) ((em e).emit fresh)).fresh)
 
   or_false : (a b : Bool) → (a || b) ≡ false → (a ≡ false) × (b ≡ false)
   or_false true b e = absurd (true≢false e)
   or_false false b e = (refl, e)
 
-  pub all_quiet : (D : ℕ → Type 0) (em : Expr → Emitter) (es : List Expr) → Every (λ e. Emits D e (em e)) es → any_calls (map em es) ≡ false → (fresh : Fresh) →
+  pub all_quiet : (D : ℕ → Type 0) (em : Expr → Emitter) (es : List Expr) → Every (λ e. Emits D e (em e)) es → any_call (map em es) ≡ false → (fresh : Fresh) →
       (emit_all false (map em es) fresh).code ≡ []
   all_quiet D em [] emits none fresh = refl
   all_quiet D em (e ∷ es) emits none fresh =
-      let both = or_false (em e).calls (any_calls (map em es)) none in
+      let both = or_false (em e).has_call (any_call (map em es)) none in
       ap (λ b. (settled b ((em e).emit fresh)).code ++ (emit_all false (map em es) (settled b ((em e).emit fresh)).fresh).code) both.1 ∙
       (ap (λ code. code ++ (emit_all false (map em es) ((em e).emit fresh).fresh).code) (emits.0.quiet both.0 fresh) ∙
       all_quiet D em es emits.1 both.1 ((em e).emit fresh).fresh)
@@ -392,9 +393,9 @@ module _ (c : Context) (V : List Variable) (first : ℕ) (stands : Stands c V fi
   all_open D em [] emits value fresh room s t r =
       (t, refl, keeps_refl first (length c.scope.variables) (next_of fresh) t, (t, refl, (r, keeps_refl first (length c.scope.variables) (next_of fresh) t)))
   all_open D em (e ∷ es) emits value fresh room s t r =
-      by_calls (any_calls (map em es)) refl room (λ fresh' room' s1 t1 r1. all_open D em es emits.1 value.1 fresh' room' s1 t1 r1)
+      by_calls (any_call (map em es)) refl room (λ fresh' room' s1 t1 r1. all_open D em es emits.1 value.1 fresh' room' s1 t1 r1)
     where
-      by_calls : (b : Bool) → any_calls (map em es) ≡ b → HasRoom fresh (from_one_on b ((em e).emit fresh) (map em es)).fresh →
+      by_calls : (b : Bool) → any_call (map em es) ≡ b → HasRoom fresh (from_one_on b ((em e).emit fresh) (map em es)).fresh →
           ((fresh' : Fresh) → HasRoom fresh' (emit_all false (map em es) fresh').fresh → (s1 t1 : State) → Related c V first D s1 t1 →
           Opens (Keeps first (length c.scope.variables) (next_of fresh') t1) (Later c V first D (next_of fresh') t1) (evaluate_all c es s1) (perform f lane n (emit_all false (map em es) fresh').code t1)
           (evaluate_all (flat_of_context c V) (emit_all false (map em es) fresh').values)) →

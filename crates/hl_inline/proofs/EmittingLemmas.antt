@@ -6,8 +6,12 @@ use Rattle.hl_meaning.specs.Types.{Ty}
 use Rattle.hl_meaning.specs.Trees.{Expr, Exprs, Form, Location, MaybeExpr, MaybeLocation, PathPart, PathParts, Root, Target, a_location, an_expr, atomic_form, binary_form, build_form, bytes_target, choose_form, constant_root, convert_form, element_root, index_part, intrinsic_form, member_part, method_form, more_parts, no_expr, no_location, no_parts, pick_form, place_target, read_form, shared_root, some_expr, some_location, swizzle_part, unary_form, variable_root, write_form}
 use Rattle.hl_meaning.specs.Views.{exprs_of}
 use Rattle.hl_inline.specs.FlatTrees.{FlatStmt}
-use Rattle.hl_inline.specs.Operands.{behind_expr_if, behind_target, expr_if_list, filled, filled_expr_if, filled_parts, filled_place, filled_place_if, filled_root, filled_target, first_expr, parts_exprs, place_exprs, target_exprs}
-use Rattle.hl_inline.specs.Flattening.{Emitter, Fresh, Inlined, Instance, any_calls, emit_all, emitted, emitter, expr_if_emitters, exprs_emitters, form_emitter, part_emitters, parts_emitters, place_emitters, place_if_emitters, root_emitters, settled, target_emitters}
+use Rattle.hl_inline.proofs.OperandExpressions.{expr_if_list}
+use Rattle.hl_inline.specs.Operands.{behind_expr_if, behind_target, filled, filled_expr_if, filled_parts, filled_place, filled_place_if, filled_root, filled_target, first_expr, parts_exprs, place_exprs, target_exprs}
+use Rattle.hl_inline.specs.EmittedExpressions.{emitted, emitter, expr_if_emitters, exprs_emitters, form_emitter, part_emitters, parts_emitters, place_emitters, place_if_emitters, root_emitters, target_emitters}
+use Rattle.hl_inline.specs.Emitting.{Emitter, any_call, emit_all, settled}
+use Rattle.hl_inline.specs.Fresh.{Fresh, Instance}
+use Rattle.hl_inline.specs.InlinedCalls.{Inlined}
 use Rattle.hl_inline.specs.Building.{Made, behind, filled_part, made, made_behind, operand_behind, valued}
 use Rattle.hl_inline.proofs.OperandLemmas.{place_emitters_all}
 use Rattle.hl_inline.proofs.BuildingLemmas.{map_made, node_done, none, one, pair}
@@ -96,7 +100,7 @@ expr_if_behind (some_expr value) xs ys e = behind_one xs ys e
 
 module _ (k : List Inlined) (i : Instance) (code : List FlatStmt) (fresh : Fresh) where
   pub place_done : (further f : Bool) (ty : Ty) (root : Root) (parts : PathParts) (a : Made Root) (b : Made PathParts) →
-      f ≡ (further || any_calls (parts_emitters k i parts)) →
+      f ≡ (further || any_call (parts_emitters k i parts)) →
       made_behind code (filled_root i.first root) (emit_all f (root_emitters k i root) fresh) ≡ a →
       made_behind a.code (filled_parts parts) (emit_all further (parts_emitters k i parts) a.fresh) ≡ b →
       made_behind code (filled_place i.first (a_location ty root parts)) (emit_all further (place_emitters k i (a_location ty root parts)) fresh) ≡
@@ -107,7 +111,7 @@ module _ (k : List Inlined) (i : Instance) (code : List FlatStmt) (fresh : Fresh
 
   -- one step and those behind it
   pub parts_done : (further f : Bool) (part : PathPart) (rest : PathParts) (a : Made PathPart) →
-      f ≡ (further || any_calls (parts_emitters k i rest)) →
+      f ≡ (further || any_call (parts_emitters k i rest)) →
       made_behind code (filled_part part) (emit_all f (part_emitters k i part) fresh) ≡ a →
       made_behind code (filled_parts (more_parts part rest)) (emit_all further (parts_emitters k i (more_parts part rest)) fresh) ≡
       map_made (more_parts a.value) (made_behind a.code (filled_parts rest) (emit_all further (parts_emitters k i rest) a.fresh))
@@ -166,7 +170,7 @@ module _ (k : List Inlined) (i : Instance) (code : List FlatStmt) (fresh : Fresh
     intrinsic_done number es a done = node_done i ty at (intrinsic_form number es) (exprs_emitters k i es) code fresh (map_made (intrinsic_form number) a) (ap (map_made (intrinsic_form number)) done)
 
     pub write_done : (to : Location) (op : Option ℕ) (common : Ty) (value : Expr) (old f : Bool) (a : Made Location) (b : Made Expr) →
-        f ≡ (emitter k i value).calls →
+        f ≡ (emitter k i value).has_call →
         made_behind code (filled_place i.first to) (emit_all f (place_emitters k i to) fresh) ≡ a →
         operand_behind a.code (settled false (emitted k i value a.fresh)) ≡ b →
         behind code ((form_emitter k i ty at (write_form to op common value old)).emit fresh) ≡ valued b.code (an_expr ty at (write_form a.value op common b.value old)) false b.fresh
@@ -176,9 +180,9 @@ module _ (k : List Inlined) (i : Instance) (code : List FlatStmt) (fresh : Fresh
         (place_emitters k i to) (emitter k i value ∷ []) code fresh a b
         (λ xs ys e. ap (λ p. write_form p op common (first_expr (drop (length (place_exprs to)) (xs ++ ys))) old) (place_front i.first to xs ys (e ∙ place_count k i to)) ∙
         ap (λ l. write_form (filled_place i.first to xs) op common (first_expr l) old) (drop_front (length (place_exprs to)) xs ys (e ∙ place_count k i to)))
-        (is ∙ sym (or-false (emitter k i value).calls)) first (one false (emitter k i value) a.code a.fresh b second))
+        (is ∙ sym (or-false (emitter k i value).has_call)) first (one false (emitter k i value) a.code a.fresh b second))
 
-    pub binary_done : (op : ℕ) (left right : Expr) (f : Bool) (a b : Made Expr) → f ≡ (emitter k i right).calls →
+    pub binary_done : (op : ℕ) (left right : Expr) (f : Bool) (a b : Made Expr) → f ≡ (emitter k i right).has_call →
         operand_behind code (settled f (emitted k i left fresh)) ≡ a →
         operand_behind a.code (settled false (emitted k i right a.fresh)) ≡ b →
         behind code ((form_emitter k i ty at (binary_form op left right)).emit fresh) ≡ valued b.code (an_expr ty at (binary_form op a.value b.value)) false b.fresh
@@ -187,9 +191,9 @@ module _ (k : List Inlined) (i : Instance) (code : List FlatStmt) (fresh : Fresh
         (pair first_expr first_expr (binary_form op) (filled i.first (binary_form op left right)) false f
         (emitter k i left ∷ []) (emitter k i right ∷ []) code fresh a b
         (λ xs ys e. ap (λ v. binary_form op v (first_expr (drop 1 (xs ++ ys)))) (first_front xs ys e) ∙ ap (λ l. binary_form op (first_expr xs) (first_expr l)) (behind_one xs ys e))
-        (is ∙ sym (or-false (emitter k i right).calls)) (operand_done f left a first) (one false (emitter k i right) a.code a.fresh b second))
+        (is ∙ sym (or-false (emitter k i right).has_call)) (operand_done f left a first) (one false (emitter k i right) a.code a.fresh b second))
 
-    pub method_done : (resource count : ℕ) (address : Expr) (value : MaybeExpr) (f : Bool) (a : Made Expr) (b : Made MaybeExpr) → f ≡ any_calls (expr_if_emitters k i value) →
+    pub method_done : (resource count : ℕ) (address : Expr) (value : MaybeExpr) (f : Bool) (a : Made Expr) (b : Made MaybeExpr) → f ≡ any_call (expr_if_emitters k i value) →
         operand_behind code (settled f (emitted k i address fresh)) ≡ a →
         made_behind a.code (filled_expr_if value) (emit_all false (expr_if_emitters k i value) a.fresh) ≡ b →
         behind code ((form_emitter k i ty at (method_form resource count address value)).emit fresh) ≡ valued b.code (an_expr ty at (method_form resource count a.value b.value)) false b.fresh
@@ -200,7 +204,7 @@ module _ (k : List Inlined) (i : Instance) (code : List FlatStmt) (fresh : Fresh
         (λ xs ys e. ap (λ v. method_form resource count v (filled_expr_if value (drop 1 (xs ++ ys)))) (first_front xs ys e) ∙ ap (λ l. method_form resource count (first_expr xs) (filled_expr_if value l)) (behind_one xs ys e))
         is (operand_done f address a first) second)
 
-    pub choose_done : (cond consequent alternative : Expr) (f g : Bool) (a b d : Made Expr) → g ≡ (emitter k i alternative).calls → f ≡ ((emitter k i consequent).calls || g) →
+    pub choose_done : (cond consequent alternative : Expr) (f g : Bool) (a b d : Made Expr) → g ≡ (emitter k i alternative).has_call → f ≡ ((emitter k i consequent).has_call || g) →
         operand_behind code (settled f (emitted k i cond fresh)) ≡ a →
         operand_behind a.code (settled g (emitted k i consequent a.fresh)) ≡ b →
         operand_behind b.code (settled false (emitted k i alternative b.fresh)) ≡ d →
@@ -209,9 +213,9 @@ module _ (k : List Inlined) (i : Instance) (code : List FlatStmt) (fresh : Fresh
         node_done i ty at (choose_form cond consequent alternative) (emitter k i cond ∷ emitter k i consequent ∷ emitter k i alternative ∷ []) code fresh (made d.code (choose_form a.value b.value d.value) d.fresh)
         (pair first_expr two (λ v vs. choose_form v vs.0 vs.1) (filled i.first (choose_form cond consequent alternative)) false f
         (emitter k i cond ∷ []) (emitter k i consequent ∷ emitter k i alternative ∷ []) code fresh a (made d.code (b.value, d.value) d.fresh)
-        one_and_two (is_f ∙ ap (λ x. (emitter k i consequent).calls || x) (is_g ∙ sym (or-false (emitter k i alternative).calls))) (operand_done f cond a first)
+        one_and_two (is_f ∙ ap (λ x. (emitter k i consequent).has_call || x) (is_g ∙ sym (or-false (emitter k i alternative).has_call))) (operand_done f cond a first)
         (pair first_expr first_expr (λ x y. (x, y)) two false g (emitter k i consequent ∷ []) (emitter k i alternative ∷ []) a.code a.fresh b d one_and_one
-        (is_g ∙ sym (or-false (emitter k i alternative).calls)) (one g (emitter k i consequent) a.code a.fresh b second) (one false (emitter k i alternative) b.code b.fresh d third)))
+        (is_g ∙ sym (or-false (emitter k i alternative).has_call)) (one g (emitter k i consequent) a.code a.fresh b second) (one false (emitter k i alternative) b.code b.fresh d third)))
       where
         two : List Expr → Expr × Expr
         two es = (first_expr es, first_expr (drop 1 es))
@@ -274,7 +278,7 @@ atomic_apart first target kind compare value original xs ys e =
 pub atomic_done : (k : List Inlined) (i : Instance) (code : List FlatStmt) (fresh : Fresh) (ty : Ty) (at : ℕ)
     (target : Target) (kind : Option AtomicKind) (compare : MaybeExpr) (value : Expr) (original : MaybeLocation) (f g h : Bool)
     (a : Made Target) (b : Made MaybeExpr) (d : Made Expr) (l : Made MaybeLocation) →
-    h ≡ any_calls (place_if_emitters k i original) → g ≡ ((emitter k i value).calls || h) → f ≡ (any_calls (expr_if_emitters k i compare) || g) →
+    h ≡ any_call (place_if_emitters k i original) → g ≡ ((emitter k i value).has_call || h) → f ≡ (any_call (expr_if_emitters k i compare) || g) →
     made_behind code (filled_target i.first target) (emit_all f (target_emitters k i target) fresh) ≡ a →
     made_behind a.code (filled_expr_if compare) (emit_all g (expr_if_emitters k i compare) a.fresh) ≡ b →
     operand_behind b.code (settled h (emitted k i value b.fresh)) ≡ d →
@@ -285,7 +289,7 @@ atomic_done k i code fresh ty at target kind compare value original f g h a b d 
     (pair (filled_target i.first target) (atomic_parts i.first compare original) (atomic_of kind) (filled i.first (atomic_form target kind compare value original)) false f
     (target_emitters k i target) rest_of_target code fresh a (made l.code (record { compare = b.value; value = d.value; original = l.value }) l.fresh)
     (λ xs ys e. atomic_apart i.first target kind compare value original xs ys (e ∙ target_count k i target))
-    (is_f ∙ (ap (λ x. any_calls (expr_if_emitters k i compare) || x) g_is ∙ sym (any-append (expr_if_emitters k i compare) rest_of_compare))) first
+    (is_f ∙ (ap (λ x. any_call (expr_if_emitters k i compare) || x) g_is ∙ sym (any-append (expr_if_emitters k i compare) rest_of_compare))) first
     (pair (filled_expr_if compare) (last_parts i.first original) with_compare (atomic_parts i.first compare original) false g
     (expr_if_emitters k i compare) rest_of_compare a.code a.fresh b (made l.code (record { value = d.value; original = l.value }) l.fresh)
     (λ xs ys e. compare_apart i.first compare original xs ys (e ∙ expr_if_count k i compare)) g_is second
@@ -299,5 +303,5 @@ atomic_done k i code fresh ty at target kind compare value original f g h a b d 
     rest_of_target : List Emitter
     rest_of_target = expr_if_emitters k i compare ++ rest_of_compare
 
-    g_is : g ≡ any_calls (emitter k i value ∷ place_if_emitters k i original)
-    g_is = is_g ∙ ap (λ x. (emitter k i value).calls || x) is_h
+    g_is : g ≡ any_call (emitter k i value ∷ place_if_emitters k i original)
+    g_is = is_g ∙ ap (λ x. (emitter k i value).has_call || x) is_h

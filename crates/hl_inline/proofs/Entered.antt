@@ -10,20 +10,24 @@ use Rattle.hl_meaning.specs.declared.program.FunctionDef.{FunctionDef as HeldFun
 use Rattle.hl_meaning.specs.Programs.{FunctionDef, Program, Resource, StructDef, Variable}
 use Rattle.hl_meaning.specs.Views.{plain_function}
 use Rattle.hl_meaning.specs.WellFormed.{IsEntryIf, IsWellFormed}
-use Rattle.hl_inline.specs.Building.{inlined_all, laid_to, named_body}
+use Rattle.hl_inline.specs.Building.{emitted_to, inlined_all, named_body}
 use Rattle.hl_inline.specs.Entering.{entry_before, entry_behind}
 use Rattle.hl_inline.specs.FlatTrees.{Flat, FlatStmt, flat_block, flat_named}
 use Rattle.hl_inline.specs.FlatViews.{flat_stmts_of}
-use Rattle.hl_inline.specs.Flattening.{Fresh, Inlined, Laid, entry_body, entry_fresh, entry_instance, entry_of, flat_around, flattened, inlined, inlined_at, laid_with, next_of, set_constants, set_inputs}
+use Rattle.hl_inline.specs.EmittedCode.{EmittedCode, emitted_with}
+use Rattle.hl_inline.specs.Fresh.{Fresh, next_of}
+use Rattle.hl_inline.specs.InlinedCalls.{Inlined, inlined_at}
+use Rattle.hl_inline.specs.InlinedFunctions.{inlined}
+use Rattle.hl_inline.specs.InlinedPrograms.{entry_body, entry_fresh, entry_instance, flat_around, inlined_entry, inlined_program, set_constants, set_inputs}
 use Rattle.hl_inline.proofs.CalleeLemmas.{callee_found}
 
 -- the code of the entry, behind what is set first
-pub entry-code : (p : Program) (d : FunctionDef) (f : Inlined) (fresh : Fresh) (first result : ℕ) (code : List FlatStmt) (y : Laid) → first ≡ length p.constants → result ≡ next_of fresh → code ≡ entry_before p d
-    → laid_with code (named_body f (record { first = first; result = result; exit = 0 }) fresh) ≡ y → laid_with (entry_before p d) (named_body f (entry_behind p fresh) fresh) ≡ y
+pub entry-code : (p : Program) (d : FunctionDef) (f : Inlined) (fresh : Fresh) (first result : ℕ) (code : List FlatStmt) (y : EmittedCode) → first ≡ length p.constants → result ≡ next_of fresh → code ≡ entry_before p d
+    → emitted_with code (named_body f (record { first = first; result = result; exit = 0 }) fresh) ≡ y → emitted_with (entry_before p d) (named_body f (entry_behind p fresh) fresh) ≡ y
 entry-code p d f fresh first result code y first-is result-is code-is e =
-    ap (λ l. laid_with l (named_body f (entry_behind p fresh) fresh)) (sym code-is) ∙
-    (ap (λ n. laid_with code (named_body f (record { first = n; result = next_of fresh; exit = 0 }) fresh)) (sym first-is) ∙
-    (ap (λ n. laid_with code (named_body f (record { first = first; result = n; exit = 0 }) fresh)) (sym result-is) ∙ e))
+    ap (λ l. emitted_with l (named_body f (entry_behind p fresh) fresh)) (sym code-is) ∙
+    (ap (λ n. emitted_with code (named_body f (record { first = n; result = next_of fresh; exit = 0 }) fresh)) (sym first-is) ∙
+    (ap (λ n. emitted_with code (named_body f (record { first = first; result = n; exit = 0 }) fresh)) (sym result-is) ∙ e))
 
 -- the entry stands behind the variables of the constants and its own
 entry-place : (p : Program) (f : Inlined) → entry_behind p (entry_fresh p f) ≡ entry_instance p f
@@ -32,7 +36,7 @@ entry-place p f =
     (length-append (map (λ c. c.variable) p.constants) f.variables ∙ ap (λ n. n + length f.variables) (length-map p.constants (λ c. c.variable)))
 
 pub flat-around : (p : Program) (d : FunctionDef) (k : List Inlined) (fresh now : Fresh) (code : List FlatStmt) → fresh ≡ entry_fresh p (inlined k d)
-    → laid_with (entry_before p d) (named_body (inlined k d) (entry_behind p fresh) fresh) ≡ laid_to code now
+    → emitted_with (entry_before p d) (named_body (inlined k d) (entry_behind p fresh) fresh) ≡ emitted_to code now
     → flat_around p (inlined k d) (entry_body p (inlined k d)) ≡
     record { structs = p.structs; variables = now.variables; resources = p.resources; shared = p.shared; threads = p.threads; body = flat_stmts_of code }
 flat-around p d k fresh now code is e =
@@ -41,10 +45,10 @@ flat-around p d k fresh now code is e =
     let constants = set_constants p.structs 0 p.constants in
     let inputs = set_inputs (length p.constants) d.parameters in
     let named = flat_named 0 (flat_block (flat_stmts_of body.code)) ∷ [] in
-    let laid : laid_with (entry_before p d) (named_body f (entry_instance p f) (entry_fresh p f)) ≡ laid_to code now =
-    ap (λ i. laid_with (entry_before p d) (named_body f i (entry_fresh p f))) (sym (entry-place p f)) ∙
-    (ap (λ x. laid_with (entry_before p d) (named_body f (entry_behind p x) x)) (sym is) ∙ e) in
-    ap (around p body.fresh.variables) (sym (append_assoc constants inputs named) ∙ ap (λ l. l.code) laid) ∙ ap (λ l. around p l.fresh.variables code) laid
+    let emitted_stmt : emitted_with (entry_before p d) (named_body f (entry_instance p f) (entry_fresh p f)) ≡ emitted_to code now =
+    ap (λ i. emitted_with (entry_before p d) (named_body f i (entry_fresh p f))) (sym (entry-place p f)) ∙
+    (ap (λ x. emitted_with (entry_before p d) (named_body f (entry_behind p x) x)) (sym is) ∙ e) in
+    ap (around p body.fresh.variables) (sym (append_assoc constants inputs named) ∙ ap (λ l. l.code) emitted_stmt) ∙ ap (λ l. around p l.fresh.variables code) emitted_stmt
   where
     around : (p : Program) → List Variable → List FlatStmt → Flat
     around p variables code = record { structs = p.structs; variables = variables; resources = p.resources; shared = p.shared; threads = p.threads; body = flat_stmts_of code }
@@ -58,9 +62,9 @@ pub entry-is : (held functions : List HeldFunction) (number : ℕ) (entry : Held
     → inlined_at (inlined_all held) number ≡ inlined (inlined_all (take number functions)) (plain_function entry)
 entry-is held functions number entry same within is = ap (λ l. inlined_at (inlined_all l) number) same ∙ callee_found functions number entry within is
 
-pub flattened-as : (p : Program) (f : Inlined) → entry_of p ≡ f → flattened p ≡ flat_around p f (entry_body p f)
-unfolding flattened
-flattened-as p f is = ap (λ g. flat_around p g (entry_body p g)) is
+pub inlined_program-as : (p : Program) (f : Inlined) → inlined_entry p ≡ f → inlined_program p ≡ flat_around p f (entry_body p f)
+unfolding inlined_program
+inlined_program-as p f is = ap (λ g. flat_around p g (entry_body p g)) is
 
 -- the parts of it
 abbrev pub flat_with : Program → List StructDef → List Variable → List Resource → (shared : List Variable) → List FlatStmt → Flat

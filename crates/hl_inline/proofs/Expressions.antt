@@ -16,28 +16,37 @@ use Rattle.hl_source.specs.State.{Context}
 use Rattle.hl_source.specs.Expressions.{no_callee}
 use Rattle.hl_inline.specs.FlatTrees.{Flat}
 use Rattle.hl_inline.specs.FlatLane.{flat_context}
-use Rattle.hl_inline.specs.IndexedVariables.{arg_mentions, args_mentions, call_mention, form_mentions, location_mentions}
-use Rattle.hl_inline.specs.Operands.{arg_exprs, args_exprs, operand_exprs, place_exprs}
-use Rattle.hl_inline.specs.Flattening.{Inlined, Instance, call, emitter, inlined_at}
+use Rattle.hl_inline.specs.Occurrences.{arg_occurrences, args_occurrences, call_occurrence, form_occurrences, location_occurrences}
+use Rattle.hl_inline.proofs.OperandExpressions.{arg_exprs, args_exprs, operand_exprs}
+use Rattle.hl_inline.specs.Operands.{place_exprs}
+use Rattle.hl_inline.specs.EmittedExpressions.{emitter}
+use Rattle.hl_inline.specs.Fresh.{Instance, nameless}
+use Rattle.hl_inline.specs.InlinedCalls.{Inlined, call, inlined_at}
 use Rattle.hl_inline.proofs.Induction.{Every, Step, by_operands, every_operand, every_back, every_front, every_map}
 use Rattle.hl_inline.proofs.OperandLemmas.{form_emitter_all, is_call_form, args_emitters_all}
 use Rattle.hl_inline.proofs.Relation.{Stands, flat_of_context}
 use Rattle.hl_inline.proofs.Reading.{IsChangedPlace}
+use Rattle.hl_inline.proofs.Fronts.{nameless_length, nameless_type}
 use Rattle.hl_inline.proofs.Emission.{Emits, HasValue}
 use Rattle.hl_inline.proofs.Nodes.{node_emits}
 use Rattle.hl_inline.proofs.Passing.{ArgReady, ArgsReady, ArgsTyped, HasPlaceValue, arg_type}
 use Rattle.hl_inline.proofs.Calls.{CallReady, Inlines, call_emits}
 use Rattle.hl_inline.proofs.Typed.{IsSome, IsValue, ParamsSome, form_values, place_values}
-use Rattle.hl_inline.proofs.Covered.{Covers, CoversExpr, MentionIn, form_in, operands_covered, place_changed, place_covered, place_in}
+use Rattle.hl_inline.proofs.Covered.{Covers, CoversExpr, OccurrenceIn, form_in, operands_covered, place_changed, place_covered, place_in}
 
 -- a function that may be called, with what becomes of it
 pub record CalleeIn (c : Context) (V : List Variable) (f : Flat) (lane : Lane) (n : ℕ) (function : ℕ) (d : FunctionDef) (g : Inlined) : Type 0 where
   pub inlines : Inlines c V f lane n (slice_index_or c.callees function no_callee) g
   pub parameters : g.parameters ≡ d.parameters
-  pub variables : g.variables ≡ d.variables
+  pub variables : g.variables ≡ map nameless d.variables
   pub result : g.result ≡ d.result
   pub numbered : AreNumberedFrom 0 d.parameters
   pub fewer : length d.parameters ≤ length d.variables
+
+-- the same without their names
+nameless_typed : (variables : List Variable) (number : ℕ) (args : Args) → ArgsTyped variables number args → ArgsTyped (map nameless variables) number args
+nameless_typed variables number no_args typed = tt
+nameless_typed variables number (more_args arg rest) typed = (nameless_type variables number ∙ typed.0, nameless_typed variables (suc number) rest typed.1)
 
 -- the variables of the parameters have the types of the arguments
 typed_from : (s : Scope) (variables : List Variable) (number : ℕ) (parameters : List Parameter) (args : Args) → AreNumberedFrom number parameters → ArePassed s (map (param_of variables) parameters) args → ArgsTyped variables number args
@@ -87,13 +96,13 @@ module _ (c : Context) (V : List Variable) (first : ℕ) (stands : Stands c V fi
   plain_step : (ty : Ty) (at : ℕ) (form : Form) → is_call_form form ≡ false → Every Emitting (operand_exprs form) → Emitting (an_expr ty at form)
   plain_step ty at form plain emitting value covers = plain_emits ty at form plain emitting value.0 covers
 
-  place_ready : (place : Location) → IsPlace c.scope place → IsChangedPlace place → Every Emitting (place_exprs place) → Covers D (location_mentions place) →
+  place_ready : (place : Location) → IsPlace c.scope place → IsChangedPlace place → Every Emitting (place_exprs place) → Covers D (location_occurrences place) →
       ArgReady c V first stands f lane n known D (emitter k i) (place_arg place)
   place_ready place h changed emitting covers =
       let values = place_values c.scope place h in
       (place_in c D place h covers, changed, emitting_all (place_exprs place) emitting values (place_covered D place covers), values_all (place_exprs place) values, place_sound place h)
 
-  arg_ready : (ty : Ty) (copying : Copying) (arg : Arg) → IsSome ty → IsPassed c.scope ty copying arg → Every Emitting (arg_exprs arg) → Covers D (arg_mentions arg) →
+  arg_ready : (ty : Ty) (copying : Copying) (arg : Arg) → IsSome ty → IsPassed c.scope ty copying arg → Every Emitting (arg_exprs arg) → Covers D (arg_occurrences arg) →
       ArgReady c V first stands f lane n known D (emitter k i) arg
   arg_ready ty CopyIn (value_arg value) some h emitting covers = (emitting.0 (h.0, ap is_void h.1 ∙ some) covers, sound value h.0)
   arg_ready ty CopyIn (place_arg place) some h emitting covers = absurd h
@@ -103,7 +112,7 @@ module _ (c : Context) (V : List Variable) (first : ℕ) (stands : Stands c V fi
   arg_ready ty CopyBoth (place_arg place) some h emitting covers = place_ready place h.0 (place_changed c.scope place h.1) emitting covers
 
   args_ready_from : (variables : List Variable) (parameters : List Parameter) (args : Args) → ParamsSome (map (param_of variables) parameters) → ArePassed c.scope (map (param_of variables) parameters) args →
-      Every Emitting (args_exprs args) → Covers D (args_mentions args) → ArgsReady c V first stands f lane n known D (emitter k i) args parameters
+      Every Emitting (args_exprs args) → Covers D (args_occurrences args) → ArgsReady c V first stands f lane n known D (emitter k i) args parameters
   args_ready_from variables [] no_args some h emitting covers = tt
   args_ready_from variables [] (more_args arg rest) some h emitting covers = absurd h
   args_ready_from variables (p ∷ parameters) no_args some h emitting covers = by_type (variable_type variables p.variable) h
@@ -112,7 +121,7 @@ module _ (c : Context) (V : List Variable) (first : ℕ) (stands : Stands c V fi
       by_type None h = h
       by_type (Some ty) h = h
   args_ready_from variables (p ∷ parameters) (more_args arg rest) some h emitting covers =
-      by_type (λ some h. args_ready_from variables parameters rest some h (every_back Emitting (arg_exprs arg) (args_exprs rest) emitting) (every_back (MentionIn D) (arg_mentions arg) (args_mentions rest) covers))
+      by_type (λ some h. args_ready_from variables parameters rest some h (every_back Emitting (arg_exprs arg) (args_exprs rest) emitting) (every_back (OccurrenceIn D) (arg_occurrences arg) (args_occurrences rest) covers))
       (variable_type variables p.variable) some h
     where
       by_type : (ParamsSome (map (param_of variables) parameters) → ArePassed c.scope (map (param_of variables) parameters) rest → ArgsReady c V first stands f lane n known D (emitter k i) rest parameters) →
@@ -121,10 +130,10 @@ module _ (c : Context) (V : List Variable) (first : ℕ) (stands : Stands c V fi
           ArgsReady c V first stands f lane n known D (emitter k i) (more_args arg rest) (p ∷ parameters)
       by_type next None some h = absurd h
       by_type next (Some ty) some h =
-          (arg_ready ty p.copying arg some.0 h.0 (every_front Emitting (arg_exprs arg) (args_exprs rest) emitting) (every_front (MentionIn D) (arg_mentions arg) (args_mentions rest) covers), next some.1 h.1)
+          (arg_ready ty p.copying arg some.0 h.0 (every_front Emitting (arg_exprs arg) (args_exprs rest) emitting) (every_front (OccurrenceIn D) (arg_occurrences arg) (args_occurrences rest) covers), next some.1 h.1)
 
   -- a call of a function that is there, where its operands are emitted
-  pub call_ready : (ty : Ty) (function : ℕ) (args : Args) → IsForm c.scope ty (call_form function args) → Every Emitting (args_exprs args) → Covers D (form_mentions (call_form function args)) →
+  pub call_ready : (ty : Ty) (function : ℕ) (args : Args) → IsForm c.scope ty (call_form function args) → Every Emitting (args_exprs args) → Covers D (form_occurrences (call_form function args)) →
       CallReady c V first stands f lane n known D (emitter k i) function ty args (inlined_at k function)
   call_ready ty function args h emitting covers = by_function (slice_get c.scope.functions function) refl h.0 h.1 (some_params function)
     where
@@ -135,10 +144,10 @@ module _ (c : Context) (V : List Variable) (first : ℕ) (stands : Stands c V fi
         inlines = there.inlines;
         parameters = ap (λ o. option_map_or (λ x. x.parameters) o []) is ∙ sym there.parameters;
         result = there.result ∙ same_Some d.result ty result;
-        fewer = subst (λ l. length l ≤ length (inlined_at k function).variables) (sym there.parameters) (subst (λ l. length d.parameters ≤ length l) (sym there.variables) there.fewer);
+        fewer = subst (λ l. length l ≤ length (inlined_at k function).variables) (sym there.parameters) (subst (λ l. length d.parameters ≤ length l) (sym there.variables) (subst (λ m. length d.parameters ≤ m) (sym (nameless_length d.variables)) there.fewer));
         args_ready = subst (ArgsReady c V first stands f lane n known D (emitter k i) args) (sym there.parameters)
-            (args_ready_from d.variables d.parameters args some passed emitting (every_front (MentionIn D) (args_mentions args) (call_mention function ∷ []) covers));
-        args_typed = subst (λ l. ArgsTyped l 0 args) (sym there.variables) (typed_from c.scope d.variables 0 d.parameters args there.numbered passed);
+            (args_ready_from d.variables d.parameters args some passed emitting (every_front (OccurrenceIn D) (args_occurrences args) (call_occurrence function ∷ []) covers));
+        args_typed = subst (λ l. ArgsTyped l 0 args) (sym there.variables) (nameless_typed d.variables 0 args (typed_from c.scope d.variables 0 d.parameters args there.numbered passed));
       }
         where
           there : CalleeIn c V f lane n function d (inlined_at k function)

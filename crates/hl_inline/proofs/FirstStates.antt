@@ -19,7 +19,7 @@ use Rattle.hl_inline.proofs.Performing.{perform}
 use Rattle.hl_inline.proofs.Emission.{variable_size}
 use Rattle.hl_inline.proofs.Passing.{HeldAs}
 use Rattle.hl_inline.proofs.Typed.{never}
-use Rattle.hl_inline.proofs.EarlyLemmas.{In, in_cases, in_first, in_rest}
+use Rattle.hl_inline.proofs.UsedUndeclaredLemmas.{In, in_cases, in_first, in_rest}
 
 -- sums of places
 

@@ -19,7 +19,7 @@ use Rattle.hl_source.specs.State.{Context, State, each, first_then, gives, goes_
 use Rattle.hl_source.specs.Offsets.{in_variable, start_of}
 use Rattle.hl_source.specs.Memory.{read_reached, word_of, word_offsets}
 use Rattle.hl_source.specs.Expressions.{evaluates}
-use Rattle.hl_inline.specs.Flattening.{reading}
+use Rattle.hl_inline.specs.Emitting.{reading}
 use Rattle.hl_inline.proofs.ProgressLemmas.{giving}
 use Rattle.hl_inline.proofs.Relation.{flat_of_context}
 

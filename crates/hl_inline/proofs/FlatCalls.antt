@@ -12,13 +12,18 @@ use Rattle.hl_meaning.specs.Places.{Scope, is_writable_place, variable_type}
 use Rattle.hl_meaning.specs.WellFormed.{AreNumberedFrom, ArePassed, IsDeclared, IsExpr, IsLocal, IsPassed, IsPlace, IsResult, Param, param_of}
 use Rattle.hl_inline.specs.FlatTrees.{flat_block, flat_local, flat_named}
 use Rattle.hl_inline.specs.FlatViews.{flat_stmts_of}
-use Rattle.hl_inline.specs.FlatWellFormed.{is_named}
-use Rattle.hl_inline.specs.Operands.{args_exprs, filled_place, place_exprs}
-use Rattle.hl_inline.specs.Flattening.{Emitter, Fresh, Inlined, Instance, Laid, Passed, Valued, Values, call, copy_back, emit_all, instance_of, is_call, next_of, nothing_passed, pass_all, passed_with, reading, result_variables, start_value, unnamed, with_body, with_instance}
+use Rattle.hl_meaning.specs.Operators.{is_among}
+use Rattle.hl_inline.proofs.OperandExpressions.{args_exprs}
+use Rattle.hl_inline.specs.Operands.{filled_place, place_exprs}
+use Rattle.hl_inline.specs.EmittedCode.{EmittedCode}
+use Rattle.hl_inline.specs.EmittedStatements.{is_call}
+use Rattle.hl_inline.specs.Emitting.{Emitter, Valued, Values, emit_all, reading}
+use Rattle.hl_inline.specs.Fresh.{Fresh, Instance, nameless, next_of, unnamed}
+use Rattle.hl_inline.specs.InlinedCalls.{Inlined, Passed, call, copy_back, instance_of, nothing_passed, pass_all, passed_with, result_variables, start_value, with_body, with_instance}
 use Rattle.hl_inline.proofs.Induction.{Every, every_append, every_back, every_front}
 use Rattle.hl_inline.proofs.OperandLemmas.{args_by}
 use Rattle.hl_inline.proofs.Typed.{IsSome, IsValue, place_values}
-use Rattle.hl_inline.proofs.Fronts.{IsFront, front_more, front_trans, instance_type, result_type_at, type_there}
+use Rattle.hl_inline.proofs.Fronts.{IsFront, front_more, front_trans, instance_type, nameless_every, nameless_type, result_type_at, type_there}
 use Rattle.hl_inline.proofs.FlatCode.{AreBelow, AreDeclared, AreFitting, Extends, IsCode, IsFitting, below_more, block_fits, code_append, extends_refl, extends_trans, free_name, named_here, no_code, one_code}
 use Rattle.hl_inline.proofs.FlatForms.{StandsFrom, all_first, place_filled, scope_over, writable_filled}
 use Rattle.hl_inline.proofs.FlatExprs.{Anywhere, AreGiven, IsEmitted, IsGiven, all_given, declared_some, reading_well, result_declared}
@@ -50,18 +55,25 @@ none_passed : (s : Scope) (params : List (Option Param)) (o : Option Param) → 
 none_passed s params None h = h
 none_passed s params (Some param) h = h
 
+-- parameters have the same types without their names
+nameless_params : (variables : List Variable) (parameters : List Parameter) → map (param_of (map nameless variables)) parameters ≡ map (param_of variables) parameters
+nameless_params variables [] = refl
+nameless_params variables (p ∷ parameters) =
+    ap (λ o. option_map (λ ty. record { ty = ty; copying = p.copying }) o ∷ map (param_of (map nameless variables)) parameters) (nameless_type variables p.variable) ∙
+    ap (λ l. param_of variables p ∷ l) (nameless_params variables parameters)
+
 -- the instance of a function in place, where S has all variables
 abbrev pub StandsAs : (constants : List Constant) → FunctionDef → List Variable → Instance → Type 0
 StandsAs constants d V own = StandsFrom constants d.variables V own.first × (IsSome d.result → variable_type V own.result ≡ Some d.result)
 
 -- what is left inside a function is its exit
 abbrev pub InsideExit : Instance → List ℕ → Type 0
-InsideExit own names = IsTrue (is_named names own.exit)
+InsideExit own names = IsTrue (is_among names own.exit)
 
 -- what becomes of a function
 pub record IsInlined (S : Scope) (constants : List Constant) (d : FunctionDef) (g : Inlined) : Type 0 where
   pub parameters : g.parameters ≡ d.parameters
-  pub variables : g.variables ≡ d.variables
+  pub variables : g.variables ≡ map nameless d.variables
   pub own_declared : AreDeclared S.structs d.variables
   pub numbered : AreNumberedFrom 0 d.parameters
   pub body : (own : Instance) (fresh : Fresh) → IsCode S (StandsAs constants d S.variables own) (InsideExit own) fresh (g.body own fresh).fresh (g.body own fresh).code
@@ -203,7 +215,7 @@ module _ (s : Scope) (V : List Variable) (R : Type 0) where
       first : Fresh
       first = with_instance g ty at fresh
 
-      body : Laid
+      body : EmittedCode
       body = g.body (instance_of g fresh) passed.fresh
 
       b : IsCode (scope_over s V) (StandsAs s.constants d V (instance_of g fresh)) (InsideExit (instance_of g fresh)) passed.fresh (g.body (instance_of g fresh) passed.fresh).fresh (g.body (instance_of g fresh) passed.fresh).code
@@ -218,7 +230,7 @@ module _ (s : Scope) (V : List Variable) (R : Type 0) where
         grows = front_more fresh.variables (g.variables ++ result_variables ty at);
         names = omega arith;
         declared = λ all. every_append (λ v. IsDeclared s.structs v.ty) fresh.variables (g.variables ++ result_variables ty at) all
-            (every_append (λ v. IsDeclared s.structs v.ty) g.variables (result_variables ty at) (subst (AreDeclared s.structs) (sym inlined.variables) inlined.own_declared) (result_declares (is_void ty) refl));
+            (every_append (λ v. IsDeclared s.structs v.ty) g.variables (result_variables ty at) (subst (AreDeclared s.structs) (sym inlined.variables) (nameless_every (IsDeclared s.structs) d.variables inlined.own_declared)) (result_declares (is_void ty) refl));
       }
 
       to_passed : Extends s.structs fresh passed.fresh
@@ -234,7 +246,7 @@ module _ (s : Scope) (V : List Variable) (R : Type 0) where
       stands_own : R → IsFront body.fresh.variables V → StandsAs s.constants d V (instance_of g fresh)
       stands_own r front = (
         record {
-          own_type = λ v t e. instance_type fresh.variables g.variables (result_variables ty at) V v t (first_front front) (subst (λ vs. variable_type vs v ≡ Some t) (sym inlined.variables) e);
+          own_type = λ v t e. instance_type fresh.variables g.variables (result_variables ty at) V v t (first_front front) (subst (λ vs. variable_type vs v ≡ Some t) (sym inlined.variables) (nameless_type d.variables v ∙ e));
           constant_type = (stands r).constant_type;
         },
         λ some. subst (λ t. variable_type V (instance_of g fresh).result ≡ Some t) (sym is) (result_there front (subst IsSome is some)),
@@ -264,5 +276,5 @@ module _ (s : Scope) (V : List Variable) (R : Type 0) where
   call_given i em ty at function args d g stands inlined is result passed values emitted fresh =
       body_given i ty at function args d g fresh (pass_all i at (next_of fresh) (args_by em args) g.parameters (with_instance g ty at fresh)) stands inlined is result
       (passing_in i em g.variables (next_of fresh) at stands args g.parameters 0 (next_of fresh) (omega arith) (subst (AreNumberedFrom 0) (sym inlined.parameters) inlined.numbered)
-      (subst (λ ps. ArePassed s (map (param_of g.variables) ps) args) (sym inlined.parameters) (subst (λ vs. ArePassed s (map (param_of vs) d.parameters) args) (sym inlined.variables) passed))
+      (subst (λ ps. ArePassed s (map (param_of g.variables) ps) args) (sym inlined.parameters) (subst (λ vs. ArePassed s (map (param_of vs) d.parameters) args) (sym inlined.variables) (subst (λ ps. ArePassed s ps args) (sym (nameless_params d.variables d.parameters)) passed)))
       values emitted (with_instance g ty at fresh) (λ v t e front. instance_type fresh.variables g.variables (result_variables ty at) V v t front e))

@@ -7,8 +7,10 @@ use Rattle.hl_meaning.specs.Programs.{StructDef, Variable}
 use Rattle.hl_meaning.specs.WellFormed.{IsDeclared}
 use Rattle.hl_inline.specs.FlatTrees.{FlatStmt, flat_block}
 use Rattle.hl_inline.specs.FlatViews.{flat_stmts_of}
-use Rattle.hl_inline.specs.FlatWellFormed.{AreFlatStmts, IsFlatStmt, inputs_in, inputs_of, is_named}
-use Rattle.hl_inline.specs.Flattening.{Fresh, as_one, with_variables}
+use Rattle.hl_inline.specs.FlatWellFormed.{AreFlatStmts, IsFlatStmt, inputs_in, inputs_of}
+use Rattle.hl_meaning.specs.Operators.{is_among}
+use Rattle.hl_inline.specs.EmittedCode.{as_one}
+use Rattle.hl_inline.specs.Fresh.{Fresh, with_variables}
 use Rattle.hl_inline.proofs.Induction.{Every, every_append}
 use Rattle.hl_inline.proofs.Fronts.{IsFront, front_more, front_refl, front_trans}
 
@@ -25,26 +27,26 @@ below_more bound more [] low h = tt
 below_more bound more (name ∷ names) low h = (omega (arith, low, h.0), below_more bound more names low h.1)
 
 -- one of them, and the others
-pub named_here : (name : ℕ) (names : List ℕ) → IsTrue (is_named (name ∷ names) name)
-named_here name names = ap (λ b. b || is_named names name) (eq-eqb name name refl)
+pub named_here : (name : ℕ) (names : List ℕ) → IsTrue (is_among (name ∷ names) name)
+named_here name names = ap (λ b. b || is_among names name) (eq-eqb name name refl)
 
-pub named_later : (other name : ℕ) (names : List ℕ) → IsTrue (is_named names name) → IsTrue (is_named (other ∷ names) name)
+pub named_later : (other name : ℕ) (names : List ℕ) → IsTrue (is_among names name) → IsTrue (is_among (other ∷ names) name)
 named_later other name names h = by_test (name == other)
   where
-    by_test : (b : Bool) → IsTrue (b || is_named names name)
+    by_test : (b : Bool) → IsTrue (b || is_among names name)
     by_test true = refl
     by_test false = h
 
 -- a name that isn't the first one
-pub other_name : (other name : ℕ) (names : List ℕ) → (name ≡ other → ⊥) → IsTrue (not (is_named names name)) → IsTrue (not (is_named (other ∷ names) name))
+pub other_name : (other name : ℕ) (names : List ℕ) → (name ≡ other → ⊥) → IsTrue (not (is_among names name)) → IsTrue (not (is_among (other ∷ names) name))
 other_name other name names apart h = by_test (name == other) refl
   where
-    by_test : (b : Bool) → (name == other) ≡ b → IsTrue (not (b || is_named names name))
+    by_test : (b : Bool) → (name == other) ≡ b → IsTrue (not (b || is_among names name))
     by_test true e = absurd (apart (eqb-true name other e))
     by_test false e = h
 
 -- a greater name than all is another
-pub free_name : (bound name : ℕ) (names : List ℕ) → bound ≤ name → AreBelow bound names → IsTrue (not (is_named names name))
+pub free_name : (bound name : ℕ) (names : List ℕ) → bound ≤ name → AreBelow bound names → IsTrue (not (is_among names name))
 free_name bound name [] low h = refl
 free_name bound name (other ∷ names) low h = other_name other name names (λ e. omega (arith, e, low, h.0)) (free_name bound name names low h.1)
 

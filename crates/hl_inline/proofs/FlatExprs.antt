@@ -8,8 +8,12 @@ use Rattle.hl_meaning.specs.Programs.{StructDef, Variable}
 use Rattle.hl_meaning.specs.Places.{Scope, is_index_within, variable_type}
 use Rattle.hl_meaning.specs.WellFormed.{IsDeclared, IsExpr, IsResult}
 use Rattle.hl_inline.specs.FlatTrees.{flat_local}
-use Rattle.hl_inline.specs.Operands.{filled, operand_exprs}
-use Rattle.hl_inline.specs.Flattening.{Emitter, Fresh, Instance, Valued, Values, any_calls, emit_all, is_call, next_of, over, reading, saved, settled, token_of, unnamed, values_with}
+use Rattle.hl_inline.proofs.OperandExpressions.{operand_exprs}
+use Rattle.hl_inline.specs.Operands.{filled}
+use Rattle.hl_inline.specs.EmittedExpressions.{over}
+use Rattle.hl_inline.specs.EmittedStatements.{is_call}
+use Rattle.hl_inline.specs.Emitting.{Emitter, Valued, Values, any_call, emit_all, reading, saved, settled, token_of, values_with}
+use Rattle.hl_inline.specs.Fresh.{Fresh, Instance, next_of, unnamed}
 use Rattle.hl_inline.proofs.Induction.{Every}
 use Rattle.hl_inline.proofs.OperandLemmas.{is_call_form}
 use Rattle.hl_inline.proofs.Typed.{IsSome, IsValue}
@@ -132,9 +136,9 @@ module _ (S : Scope) (R : Type 0) where
       AreGiven es fresh (emit_all further (map em es) fresh)
   all_given further s em [] same emitted values fresh = none_given fresh
   all_given further s em (e ∷ es) same emitted values fresh =
-      one_more_given e es fresh (settled (further || any_calls (map em es)) ((em e).emit fresh)) (emit_all further (map em es) (settled (further || any_calls (map em es)) ((em e).emit fresh)).fresh) values.0.1
-      (settled_given (further || any_calls (map em es)) e fresh ((em e).emit fresh) (subst (λ structs. IsDeclared structs (type_of e)) (sym same) (value_declared s e values.0)) values.0.1 (emitted.0 fresh))
-      (all_given further s em es same emitted.1 values.1 (settled (further || any_calls (map em es)) ((em e).emit fresh)).fresh)
+      one_more_given e es fresh (settled (further || any_call (map em es)) ((em e).emit fresh)) (emit_all further (map em es) (settled (further || any_call (map em es)) ((em e).emit fresh)).fresh) values.0.1
+      (settled_given (further || any_call (map em es)) e fresh ((em e).emit fresh) (subst (λ structs. IsDeclared structs (type_of e)) (sym same) (value_declared s e values.0)) values.0.1 (emitted.0 fresh))
+      (all_given further s em es same emitted.1 values.1 (settled (further || any_call (map em es)) ((em e).emit fresh)).fresh)
 
 -- a form that isn't a call, over what is left of its operands
 pub form_given : (s : Scope) (V : List Variable) (R : Type 0) (i : Instance) (ty : Ty) (at : ℕ) (form : Form) (fresh : Fresh) (x : Values) → (R → StandsFrom s.constants s.variables V i.first) →

@@ -10,10 +10,15 @@ use Rattle.hl_meaning.specs.Places.{Scope, variable_type}
 use Rattle.hl_meaning.specs.WellFormed.{ArePassed, IsDeclared, IsExpr, IsFunction, IsWellFormed, callee_params, callee_result, scope_of}
 use Rattle.hl_meaning.proofs.LayoutForms.{get-next}
 use Rattle.hl_inline.specs.FlatTrees.{flat_local}
-use Rattle.hl_inline.specs.Operands.{args_exprs, operand_exprs}
-use Rattle.hl_inline.specs.Early.{early_variables}
-use Rattle.hl_inline.specs.Flattening.{Fresh, Inlined, Instance, call, emit_all, emitter, inlined, inlined_after, inlined_at, lay_all, node, outside_loops, zeros_first}
-use Rattle.hl_inline.proofs.EarlyLemmas.{In, early_behind, in_first, in_rest}
+use Rattle.hl_inline.proofs.OperandExpressions.{args_exprs, operand_exprs}
+use Rattle.hl_inline.specs.UsedUndeclared.{variables_used_undeclared}
+use Rattle.hl_inline.specs.EmittedExpressions.{emitter, node}
+use Rattle.hl_inline.specs.EmittedStatements.{emit_stmts}
+use Rattle.hl_inline.specs.Emitting.{emit_all}
+use Rattle.hl_inline.specs.Fresh.{Fresh, Instance}
+use Rattle.hl_inline.specs.InlinedCalls.{Inlined, call, inlined_at}
+use Rattle.hl_inline.specs.InlinedFunctions.{inlined, inlined_after, outside_loops, zeros_first}
+use Rattle.hl_inline.proofs.UsedUndeclaredLemmas.{In, in_first, in_rest, used_undeclared_behind}
 use Rattle.hl_inline.proofs.Induction.{every_map, Every, Step, by_operands, every_both, every_from_all}
 use Rattle.hl_inline.proofs.OperandLemmas.{args_emitters_all, form_emitter_all, is_call_form}
 use Rattle.hl_inline.proofs.Typed.{some_declared, IsValue, ParamsSome, form_values, params_some}
@@ -22,7 +27,7 @@ use Rattle.hl_inline.proofs.FlatCode.{AreDeclared, IsCode, code_append, code_whe
 use Rattle.hl_inline.proofs.FlatForms.{StandsFrom, scope_over}
 use Rattle.hl_inline.proofs.FlatExprs.{IsEmitted, all_given, form_given}
 use Rattle.hl_inline.proofs.FlatCalls.{InsideExit, IsInlined, StandsAs, call_given}
-use Rattle.hl_inline.proofs.FlatStatements.{Inside, stmts_laid}
+use Rattle.hl_inline.proofs.FlatStatements.{Inside, stmts_emitted}
 
 -- each function that may be called is known
 abbrev pub Callees : (s : Scope) (V : List Variable) → List Inlined → Type 0
@@ -89,13 +94,13 @@ module _ (s : Scope) (V : List Variable) (R : Type 0) (k : List Inlined) (i : In
   expr_emitted e h = by_operands Emitting emit_step e h
 
 -- the variables that are set first
-zeros_laid : (S : Scope) (R : Type 0) (T : List ℕ → Type 0) (constants : List Constant) (own : List Variable) (first : ℕ) → (R → StandsFrom constants own S.variables first) → (numbers : List ℕ) → ((v : ℕ) → In numbers v → v < length own) →
+zeros_emitted : (S : Scope) (R : Type 0) (T : List ℕ → Type 0) (constants : List Constant) (own : List Variable) (first : ℕ) → (R → StandsFrom constants own S.variables first) → (numbers : List ℕ) → ((v : ℕ) → In numbers v → v < length own) →
     (fresh : Fresh) → IsCode S R T fresh fresh (map (λ variable. flat_local (first + variable) None) numbers)
-zeros_laid S R T constants own first stands [] low fresh = no_code S R T fresh
-zeros_laid S R T constants own first stands (number ∷ numbers) low fresh =
+zeros_emitted S R T constants own first stands [] low fresh = no_code S R T fresh
+zeros_emitted S R T constants own first stands (number ∷ numbers) low fresh =
     code_append S R T fresh fresh fresh (flat_local (first + number) None ∷ []) (map (λ variable. flat_local (first + variable) None) numbers)
     (one_code S R T fresh fresh (flat_local (first + number) None) (extends_refl S.structs fresh) (λ r front names below t. (there r (type_at own number (low number (in_first number numbers))), refl)))
-    (zeros_laid S R T constants own first stands numbers (λ v among. low v (in_rest number v numbers among)) fresh)
+    (zeros_emitted S R T constants own first stands numbers (λ v among. low v (in_rest number v numbers among)) fresh)
   where
     there : R → (ty : Ty) × (variable_type own number ≡ Some ty) → first + number < length S.variables
     there r t = type_there S.variables (first + number) t.0 ((stands r).own_type number t.0 t.1)
@@ -109,12 +114,12 @@ function_inlined p V number f k h callees = record {
   own_declared = declared;
   numbered = h.numbered;
   body = λ own fresh.
-      code_append (scope_over (scope_of p number f) V) (StandsAs p.constants f V own) (InsideExit own) fresh fresh (lay_all k own outside_loops f.body fresh).fresh
-      (zeros_first own f) (lay_all k own outside_loops f.body fresh).code
-      (zeros_laid (scope_over (scope_of p number f) V) (StandsAs p.constants f V own) (InsideExit own) p.constants f.variables own.first (λ r. r.0) (early_variables f) (λ v among. (early_behind f v among).1) fresh)
-      (code_where (scope_over (scope_of p number f) V) (StandsAs p.constants f V own) (StandsAs p.constants f V own) (Inside own.exit false outside_loops) (InsideExit own) fresh (lay_all k own outside_loops f.body fresh).fresh
-      (lay_all k own outside_loops f.body fresh).code (λ r. r) (λ names t. (t, tt))
-      (stmts_laid (scope_of p number f) V (StandsAs p.constants f V own) k own (λ r. r.0) (λ r. r.1) declared (expr_emitted (scope_of p number f) V (StandsAs p.constants f V own) k own (λ r. r.0) callees)
+      code_append (scope_over (scope_of p number f) V) (StandsAs p.constants f V own) (InsideExit own) fresh fresh (emit_stmts k own outside_loops f.body fresh).fresh
+      (zeros_first own f) (emit_stmts k own outside_loops f.body fresh).code
+      (zeros_emitted (scope_over (scope_of p number f) V) (StandsAs p.constants f V own) (InsideExit own) p.constants f.variables own.first (λ r. r.0) (variables_used_undeclared f) (λ v among. (used_undeclared_behind f v among).1) fresh)
+      (code_where (scope_over (scope_of p number f) V) (StandsAs p.constants f V own) (StandsAs p.constants f V own) (Inside own.exit false outside_loops) (InsideExit own) fresh (emit_stmts k own outside_loops f.body fresh).fresh
+      (emit_stmts k own outside_loops f.body fresh).code (λ r. r) (λ names t. (t, tt))
+      (stmts_emitted (scope_of p number f) V (StandsAs p.constants f V own) k own (λ r. r.0) (λ r. r.1) declared (expr_emitted (scope_of p number f) V (StandsAs p.constants f V own) k own (λ r. r.0) callees)
       false outside_loops f.body h.body fresh));
 }
   where

@@ -22,10 +22,14 @@ use Rattle.hl_meaning.specs.WellFormed.{AreExprs, Builds, HasSemanticIf, HoldWor
 use Rattle.hl_inline.specs.FlatTrees.{FlatStmt, flat_block, flat_named}
 use Rattle.hl_inline.specs.FlatViews.{flat_stmts_of}
 use Rattle.hl_inline.specs.FlatWellFormed.{AreFlatStmts, IsFlat, IsFlatStmt, inputs_in, inputs_of, most_shared_words}
-use Rattle.hl_inline.specs.Flattening.{Inlined, Laid, constant_value, entry_body, entry_fresh, entry_instance, entry_of, flat_around, flattened, literals, inlined_after, set_constants, set_inputs}
+use Rattle.hl_inline.specs.EmittedCode.{EmittedCode}
+use Rattle.hl_inline.specs.InlinedCalls.{Inlined}
+use Rattle.hl_inline.specs.Fresh.{nameless}
+use Rattle.hl_inline.specs.InlinedFunctions.{inlined_after}
+use Rattle.hl_inline.specs.InlinedPrograms.{constant_value, entry_body, entry_fresh, entry_instance, flat_around, inlined_entry, inlined_program, literals, set_constants, set_inputs}
 use Rattle.hl_inline.proofs.Induction.{Every, every_append, all_from_every, every_from_all}
 use Rattle.hl_inline.proofs.Typed.{IsSome}
-use Rattle.hl_inline.proofs.Fronts.{IsFront, front_refl, type_behind, type_front}
+use Rattle.hl_inline.proofs.Fronts.{IsFront, front_refl, nameless_every, nameless_type, type_behind, type_front}
 use Rattle.hl_inline.proofs.FlatCode.{AreDeclared, AreFitting, IsCode, IsFitting, block_fits, named_here}
 use Rattle.hl_inline.proofs.FlatExprs.{result_declared}
 use Rattle.hl_inline.proofs.FlatForms.{StandsFrom}
@@ -143,16 +147,17 @@ inputs_before (first ∷ code) stmt e = ap (λ l. inputs_of first ++ l) (inputs_
 -- the entry
 
 -- the variables in the end begin with the constants and those of the entry
-entry_stands : (constants : List Constant) (own V : List Variable) → IsFront (map (λ c. c.variable) constants ++ own) V → StandsFrom constants own V (length constants)
+entry_stands : (constants : List Constant) (own V : List Variable) → IsFront (map (λ c. c.variable) constants ++ map nameless own) V → StandsFrom constants own V (length constants)
 entry_stands constants own V (more, e) = record {
   own_type = λ v ty typed.
       ap (λ l. variable_type l (length constants + v)) e ∙
-      type_front (map (λ c. c.variable) constants ++ own) more (length constants + v) ty
-      (ap (λ n. variable_type (map (λ c. c.variable) constants ++ own) (n + v)) (sym (length-map constants (λ c. c.variable))) ∙ (type_behind (map (λ c. c.variable) constants) own v ∙ typed));
+      type_front (map (λ c. c.variable) constants ++ map nameless own) more (length constants + v) ty
+      (ap (λ n. variable_type (map (λ c. c.variable) constants ++ map nameless own) (n + v)) (sym (length-map constants (λ c. c.variable))) ∙
+      (type_behind (map (λ c. c.variable) constants) (map nameless own) v ∙ (nameless_type own v ∙ typed)));
   constant_type = λ k ty typed.
       ap (λ l. variable_type l k) e ∙
-      type_front (map (λ c. c.variable) constants ++ own) more k ty
-      (type_front (map (λ c. c.variable) constants) own k ty (ap (option_map (λ v. v.ty)) (slice_get-map (λ c. c.variable) constants k) ∙ (both (slice_get constants k) ∙ typed)));
+      type_front (map (λ c. c.variable) constants ++ map nameless own) more k ty
+      (type_front (map (λ c. c.variable) constants) (map nameless own) k ty (ap (option_map (λ v. v.ty)) (slice_get-map (λ c. c.variable) constants k) ∙ (both (slice_get constants k) ∙ typed)));
 }
   where
     both : (o : Option Constant) → option_map (λ v. v.ty) (option_map (λ c. c.variable) o) ≡ option_map (λ c. c.variable.ty) o
@@ -164,10 +169,10 @@ constants_declared structs [] h = tt
 constants_declared structs (c ∷ constants) h = (h.0.type, constants_declared structs constants h.1)
 
 -- the statements of a program around the body of its entry
-abbrev pub around_code : Program → Inlined → Laid → List FlatStmt
+abbrev pub around_code : Program → Inlined → EmittedCode → List FlatStmt
 around_code p g body = set_constants p.structs 0 p.constants ++ (set_inputs (length p.constants) g.parameters ++ flat_named 0 (flat_block (flat_stmts_of body.code)) ∷ [])
 
-module _ (p : Program) (d : FunctionDef) (g : Inlined) (body : Laid) (wf : IsWellFormed p) (entry : IsEntry d) (inlined : IsInlined (program_over p body.fresh.variables) p.constants d g)
+module _ (p : Program) (d : FunctionDef) (g : Inlined) (body : EmittedCode) (wf : IsWellFormed p) (entry : IsEntry d) (inlined : IsInlined (program_over p body.fresh.variables) p.constants d g)
     (code : IsCode (program_over p body.fresh.variables) (StandsAs p.constants d body.fresh.variables (entry_instance p g)) (InsideExit (entry_instance p g)) (entry_fresh p g) body.fresh body.code) where
   around_stands : StandsFrom p.constants d.variables body.fresh.variables (length p.constants)
   around_stands =
@@ -183,7 +188,7 @@ module _ (p : Program) (d : FunctionDef) (g : Inlined) (body : Laid) (wf : IsWel
   around_variables : AreDeclared p.structs body.fresh.variables
   around_variables =
       code.extends.declared (every_append (λ v. IsDeclared p.structs v.ty) (map (λ c. c.variable) p.constants) g.variables (constants_declared p.structs p.constants all_constants)
-      (subst (AreDeclared p.structs) (sym inlined.variables) inlined.own_declared))
+      (subst (AreDeclared p.structs) (sym inlined.variables) (nameless_every (IsDeclared p.structs) d.variables inlined.own_declared)))
 
   constants_fit : AreFitting (program_over p body.fresh.variables) [] (set_constants p.structs 0 p.constants)
   constants_fit =
@@ -232,16 +237,16 @@ module _ (p : Program) (d : FunctionDef) (g : Inlined) (body : Laid) (wf : IsWel
   }
 
 -- what becomes of a program
-pub flattened_is_flat : (p : Program) → IsWellFormed p → variable_words p.structs p.shared ≤ most_shared_words → IsFlat (flattened p)
-unfolding flattened
-flattened_is_flat p wf fits = by_entry (slice_get p.functions p.entry) refl wf.entry
+pub inlined_program_is_flat : (p : Program) → IsWellFormed p → variable_words p.structs p.shared ≤ most_shared_words → IsFlat (inlined_program p)
+unfolding inlined_program
+inlined_program_is_flat p wf fits = by_entry (slice_get p.functions p.entry) refl wf.entry
   where
-    by_entry : (o : Option FunctionDef) → slice_get p.functions p.entry ≡ o → IsEntryIf o → IsFlat (flat_around p (entry_of p) (entry_body p (entry_of p)))
+    by_entry : (o : Option FunctionDef) → slice_get p.functions p.entry ≡ o → IsEntryIf o → IsFlat (flat_around p (inlined_entry p) (entry_body p (inlined_entry p)))
     by_entry None e h = absurd h
     by_entry (Some d) e h =
-        let V = (entry_body p (entry_of p)).fresh.variables in
+        let V = (entry_body p (inlined_entry p)).fresh.variables in
         let inlined = inlined_get (program_over p V) p.constants p.functions (inlined_after [] p.functions) (functions_inlined p V wf) p.entry d e in
-        around_flat p d (entry_of p) (entry_body p (entry_of p)) wf h inlined (inlined.body (entry_instance p (entry_of p)) (entry_fresh p (entry_of p))) fits
+        around_flat p d (inlined_entry p) (entry_body p (inlined_entry p)) wf h inlined (inlined.body (entry_instance p (inlined_entry p)) (entry_fresh p (inlined_entry p))) fits
 
 -- few words are counted only where there are few
 pub few_words : (words : ℕ) → stopped (4 * words) ≤ 4 * most_shared_words → words ≤ most_shared_words

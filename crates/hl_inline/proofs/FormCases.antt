@@ -13,7 +13,7 @@ use Rattle.hl_meaning.specs.Types.{Ty}
 use Rattle.hl_meaning.specs.Trees.{an_expr}
 use Rattle.hl_meaning.specs.Views.{plain_expr, plain_form, plain_ty}
 use Rattle.hl_meaning.proofs.Plain.{plain_expr-is, plain_form-Atomic, plain_form-Binary, plain_form-Build, plain_form-Call, plain_form-Choose, plain_form-Convert, plain_form-Intrinsic, plain_form-Literal, plain_form-Method, plain_form-Pick, plain_form-Read, plain_form-Unary, plain_form-Write}
-use Rattle.hl_inline.specs.Flattening.{is_call}
+use Rattle.hl_inline.specs.EmittedStatements.{is_call}
 
 form-no_call : (ty : Ty) (at : ℕ) (o : Form) → ((function : ℕ) (args : List Arg) → o ≡ forms.Call function args → ⊥) → is_call (an_expr ty at (plain_form o)) ≡ false
 form-no_call ty at o =

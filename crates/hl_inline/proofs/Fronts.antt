@@ -1,14 +1,15 @@
 -- Fronts of lists of variables, and the types of variables behind them.
-use Rattle.std.proofs.Common.{◌≡◌, ◌∙◌, refl, sym, ap, ℕ, zero, suc, ◌+◌, ◌<◌, ◌≤◌, false, List, [], ◌∷◌, ◌++◌, length, Some, slice_get, arith, subst}
+use Rattle.std.proofs.Common.{◌≡◌, ◌∙◌, refl, sym, ap, ℕ, zero, suc, ◌+◌, ◌<◌, ◌≤◌, false, List, [], ◌∷◌, ◌++◌, length, map, Some, slice_get, arith, subst}
 use Rattle.hl_inline.proofs.Induction.{Every}
 use Rattle.std.specs.Prelude.{if◌then◌else◌, option_map}
-use Rattle.std.proofs.lemmas.List.{append_assoc, append-nil, length-append}
+use Rattle.std.proofs.lemmas.List.{append_assoc, append-nil, length-append, length-map}
 use Rattle.std.proofs.lemmas.Option.{none-some, same_Some}
 use Rattle.hl_meaning.specs.Types.{Ty, is_void}
 use Rattle.hl_meaning.specs.Places.{variable_type}
 use Rattle.hl_meaning.specs.Programs.{Variable}
 use Rattle.hl_meaning.proofs.LayoutForms.{get-front, get-next}
-use Rattle.hl_inline.specs.Flattening.{result_variables, unnamed}
+use Rattle.hl_inline.specs.Fresh.{nameless, unnamed}
+use Rattle.hl_inline.specs.InlinedCalls.{result_variables}
 
 abbrev pub IsFront : List Variable → List Variable → Type 0
 IsFront xs ys = (more : List Variable) × (ys ≡ xs ++ more)
@@ -75,3 +76,17 @@ result_type_at before own V ty at (rest, e) some =
     (ap (λ b. variable_type ((own ++ (if b then [] else unnamed ty at ∷ [])) ++ rest) (length own)) some ∙
     (ap (λ l. variable_type l (length own)) (append_assoc own (unnamed ty at ∷ []) rest) ∙
     ap (λ o. option_map (λ x. x.ty) o) (get-next own (unnamed ty at) rest))))
+
+-- ---- variables without their names
+
+pub nameless_type : (vs : List Variable) (v : ℕ) → variable_type (map nameless vs) v ≡ variable_type vs v
+nameless_type [] v = refl
+nameless_type (x ∷ vs) zero = refl
+nameless_type (x ∷ vs) (suc v) = nameless_type vs v
+
+pub nameless_every : (P : Ty → Type 0) (vs : List Variable) → Every (λ v. P v.ty) vs → Every (λ v. P v.ty) (map nameless vs)
+nameless_every P [] all = tt
+nameless_every P (x ∷ vs) all = (all.0, nameless_every P vs all.1)
+
+pub nameless_length : (vs : List Variable) → length (map nameless vs) ≡ length vs
+nameless_length vs = length-map vs nameless

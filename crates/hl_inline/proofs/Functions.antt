@@ -1,5 +1,5 @@
 -- A function that is called and the function in place do the same.
-use Rattle.std.proofs.Common.{◌≡◌, ◌∙◌, refl, sym, ap, subst, ℕ, zero, suc, ◌+◌, ◌<◌, ◌⊎◌, inl, inr, Bool, true, false, List, [], ◌∷◌, ◌++◌, map, length, Option, None, Some, slice_get, get_or, arith}
+use Rattle.std.proofs.Common.{◌≡◌, ◌∙◌, refl, sym, ap, subst, ℕ, zero, suc, ◌+◌, ◌<◌, ◌≤◌, ◌⊎◌, inl, inr, Bool, true, false, List, [], ◌∷◌, ◌++◌, map, length, Option, None, Some, slice_get, get_or, arith}
 use Rattle.std.specs.Prelude.{◌||◌, drop, IsTrue, replicate, slice_index_or, take}
 use Rattle.std.proofs.lemmas.List.{append_assoc, append-nil}
 use Rattle.std.proofs.lemmas.Bool.{true≢false}
@@ -16,12 +16,15 @@ use Rattle.hl_source.specs.State.{Callee, Progress, State, after, ends_at, goes_
 use Rattle.hl_source.specs.Memory.{zeros_of}
 use Rattle.hl_source.specs.Statements.{Leaving, at_end, by_break, by_continue, by_return, does_all}
 use Rattle.hl_source.specs.Expressions.{no_callee}
-use Rattle.hl_source.specs.SourceLane.{callee_of, callees_after, context_of, first_state, value_of}
+use Rattle.hl_source.specs.SourceLane.{callee_of, callees_after, context_of, first_state, returned_value}
 use Rattle.hl_inline.specs.FlatTrees.{Flat, flat_block, flat_named}
 use Rattle.hl_inline.specs.FlatViews.{flat_stmts_of}
 use Rattle.hl_inline.specs.FlatLane.{FlatLeaving, flat_context, flat_end, flat_to, named_end}
-use Rattle.hl_inline.specs.Early.{declared_in, early_variables, parameter_numbers}
-use Rattle.hl_inline.specs.Flattening.{Fresh, Inlined, Instance, inlined, inlined_after, inlined_at, lay_all, next_of, outside_loops, zeros_first}
+use Rattle.hl_inline.specs.UsedUndeclared.{declared_in, parameter_numbers, variables_used_undeclared}
+use Rattle.hl_inline.specs.EmittedStatements.{emit_stmts}
+use Rattle.hl_inline.specs.Fresh.{Fresh, Instance, nameless, next_of}
+use Rattle.hl_inline.specs.InlinedCalls.{Inlined, inlined_at}
+use Rattle.hl_inline.specs.InlinedFunctions.{inlined, inlined_after, outside_loops, zeros_first}
 use Rattle.hl_inline.proofs.Induction.{every_map, every_from_all}
 use Rattle.hl_inline.proofs.Relation.{IsOutside, Keeps, Related, Stands, count_by_sizes, flat_of_context}
 use Rattle.hl_inline.proofs.FittingWords.{Fits}
@@ -35,11 +38,11 @@ use Rattle.hl_inline.proofs.IntrinsicFits.{nothing_fits}
 use Rattle.hl_inline.proofs.Sound.{CalleesFit, place_value, sound}
 use Rattle.hl_inline.proofs.Expressions.{CalleeIn}
 use Rattle.hl_inline.proofs.Leaving.{LeavesAs, all_leaves}
-use Rattle.hl_inline.proofs.EarlyLemmas.{In, InOr, all_known_more, early_behind, function_covered, in_append_cases, in_front, in_range, known_at_start, range_bounds}
+use Rattle.hl_inline.proofs.UsedUndeclaredLemmas.{In, InOr, all_known_more, function_covered, in_append_cases, in_front, in_range, known_at_start, range_bounds, used_undeclared_behind}
 use Rattle.hl_inline.proofs.FirstStates.{first_sizes, held_from, nothing_more, one_more, other_words, parameter_words, zeroed, zeroed_at, zeroed_exchange, zeroed_other, zeroed_runs, zeroed_sizes, zero_plus}
 use Rattle.hl_inline.proofs.Statements.{DoesAs, same_name}
-use Rattle.hl_inline.proofs.Laying.{all_laid}
-use Rattle.hl_inline.proofs.Fronts.{every_type, front_length, front_trans, type_at}
+use Rattle.hl_inline.proofs.StatementRuns.{all_emitted}
+use Rattle.hl_inline.proofs.Fronts.{every_type, front_length, front_trans, nameless_length, nameless_type, type_at}
 
 -- types that a program declares
 
@@ -86,7 +89,7 @@ pub record FunctionAs (p : Program) (V : List Variable) (f : Flat) (lane : Lane)
   pub is : IsFunction p number d
   pub grows : BodyGrows g
   pub parameters : g.parameters ≡ d.parameters
-  pub variables : g.variables ≡ d.variables
+  pub variables : g.variables ≡ map nameless d.variables
   pub result : g.result ≡ d.result
 
 -- of all functions from a number on
@@ -208,7 +211,7 @@ module _ (p : Program) (well : IsWellFormed p) (V : List Variable) (f : Flat) (l
   fits_here : (parameters : List (List ℕ)) (x : Exchange) → Yields (Fits p.structs d.result) (callee_of (context_of p lane earlier d) n d parameters x)
   fits_here parameters x = by_leaving (does_all (context_of p lane earlier d) n d.body (first_state (context_of p lane earlier d) d parameters x)) (leaves_here (first_state (context_of p lane earlier d) d parameters x))
     where
-      by_leaving : (q : Progress Leaving) → Yields (LeavesAs (context_of p lane earlier d) n sound_here false (one_returns d.body)) q → Yields (Fits p.structs d.result) (after q (λ leaving s. goes_with (value_of leaving) s))
+      by_leaving : (q : Progress Leaving) → Yields (LeavesAs (context_of p lane earlier d) n sound_here false (one_returns d.body)) q → Yields (Fits p.structs d.result) (after q (λ leaving s. goes_with (returned_value leaving) s))
       by_leaving (ends_at run) l = tt
       by_leaving (goes_with at_end s) l = void_fits p d.result (end_void l)
       by_leaving (goes_with by_break s) l = never l
@@ -219,101 +222,110 @@ module _ (p : Program) (well : IsWellFormed p) (V : List Variable) (f : Flat) (l
   grows_here = inlined_grows before d bodies
 
   module _ (own : Instance) (count : ℕ) (fresh : Fresh) (place : InstanceIn (context_of p lane earlier d) V own (inlined before d) count fresh) where
+    own_typed : (v : ℕ) (ty : Ty) → variable_type d.variables v ≡ Some ty → variable_type V (own.first + v) ≡ Some ty
+    own_typed v ty typed = place.own_type v ty (nameless_type d.variables v ∙ typed)
+
+    large_here : length d.variables ≤ count
+    large_here = subst (λ m. m ≤ count) (nameless_length d.variables) place.large
+
+    result_there : is_void d.result ≡ false → (own.first + length d.variables ≤ own.result) × (own.result < own.first + count)
+    result_there some = subst (λ m. (own.first + m ≤ own.result) × (own.result < own.first + count)) (nameless_length d.variables) (place.result_place some)
+
     stands_here : Stands (context_of p lane earlier d) V own.first
     stands_here = record {
-      own = place.own_type;
+      own = own_typed;
       constant = place.constant;
       below = place.below;
-      room = omega (arith, place.large, place.room, front_length fresh.variables V (front_trans fresh.variables (lay_all before own outside_loops d.body fresh).fresh.variables V (grows_here own fresh).front place.front));
+      room = omega (arith, large_here, place.room, front_length fresh.variables V (front_trans fresh.variables (emit_stmts before own outside_loops d.body fresh).fresh.variables V (grows_here own fresh).front place.front));
     }
 
     module _ (parameters : List (List ℕ)) (x : Exchange) (t : State) (begins : BeginsAs (context_of p lane earlier d) V own (inlined before d) parameters x t) where
-      parameter_apart : (v : ℕ) → v < length d.parameters → (u : ℕ) → In (early_variables d) u → own.first + v ≡ own.first + u → ⊥
-      parameter_apart v low u there e = omega (arith, low, e, (early_behind d u there).0)
+      parameter_apart : (v : ℕ) → v < length d.parameters → (u : ℕ) → In (variables_used_undeclared d) u → own.first + v ≡ own.first + u → ⊥
+      parameter_apart v low u there e = omega (arith, low, e, (used_undeclared_behind d u there).0)
 
-      parameter_same : (v : ℕ) → v < length d.parameters → variable_words (zeroed own.first (early_variables d) t) (own.first + v) ≡ variable_words (first_state (context_of p lane earlier d) d parameters x) v
+      parameter_same : (v : ℕ) → v < length d.parameters → variable_words (zeroed own.first (variables_used_undeclared d) t) (own.first + v) ≡ variable_words (first_state (context_of p lane earlier d) d parameters x) v
       parameter_same v low =
-          zeroed_other own.first (early_variables d) t (own.first + v) (parameter_apart v low) ∙
+          zeroed_other own.first (variables_used_undeclared d) t (own.first + v) (parameter_apart v low) ∙
           (parameter_words t own.first d.parameters parameters (map (λ y. zeros_of (context_of p lane earlier d) y.ty) (drop (length d.parameters) d.variables)) v begins.exact begins.held low ∙
           sym (unwrap_or-slice_get (first_state (context_of p lane earlier d) d parameters x).variables v []))
 
-      early_same : (v : ℕ) → In (early_variables d) v → variable_words (zeroed own.first (early_variables d) t) (own.first + v) ≡ variable_words (first_state (context_of p lane earlier d) d parameters x) v
-      early_same v there = by_type (type_at d.variables v (early_behind d v there).1)
+      used_undeclared_same : (v : ℕ) → In (variables_used_undeclared d) v → variable_words (zeroed own.first (variables_used_undeclared d) t) (own.first + v) ≡ variable_words (first_state (context_of p lane earlier d) d parameters x) v
+      used_undeclared_same v there = by_type (type_at d.variables v (used_undeclared_behind d v there).1)
         where
           there_too : own.first + v < length t.variables
-          there_too = omega (arith, (early_behind d v there).1, stands_here.room, count_by_sizes (context_of p lane earlier d) V t begins.flat_sizes)
+          there_too = omega (arith, (used_undeclared_behind d v there).1, stands_here.room, count_by_sizes (context_of p lane earlier d) V t begins.flat_sizes)
 
-          by_type : (ty : Ty) × (variable_type d.variables v ≡ Some ty) → variable_words (zeroed own.first (early_variables d) t) (own.first + v) ≡ variable_words (first_state (context_of p lane earlier d) d parameters x) v
+          by_type : (ty : Ty) × (variable_type d.variables v ≡ Some ty) → variable_words (zeroed own.first (variables_used_undeclared d) t) (own.first + v) ≡ variable_words (first_state (context_of p lane earlier d) d parameters x) v
           by_type (ty, typed) =
-              zeroed_at own.first (early_variables d) t v there there_too ∙
+              zeroed_at own.first (variables_used_undeclared d) t v there there_too ∙
               (zeros_are (variable_words t (own.first + v)) ∙
-              (ap (λ k. replicate k 0) (variable_size (context_of p lane earlier d) V t (own.first + v) ty begins.flat_sizes (place.own_type v ty typed)) ∙
+              (ap (λ k. replicate k 0) (variable_size (context_of p lane earlier d) V t (own.first + v) ty begins.flat_sizes (own_typed v ty typed)) ∙
               (sym (subst (λ k. get_or (parameters ++ map (λ y. zeros_of (context_of p lane earlier d) y.ty) (drop k d.variables)) v [] ≡ zeros_of (context_of p lane earlier d) ty) begins.exact
-              (other_words (context_of p lane earlier d) d.variables parameters v ty (omega (arith, begins.exact, (early_behind d v there).0)) typed)) ∙
+              (other_words (context_of p lane earlier d) d.variables parameters v ty (omega (arith, begins.exact, (used_undeclared_behind d v there).0)) typed)) ∙
               sym (unwrap_or-slice_get (first_state (context_of p lane earlier d) d parameters x).variables v []))))
 
-      related_start : Related (context_of p lane earlier d) V own.first (InOr (length d.variables) (known_at_start d)) (first_state (context_of p lane earlier d) d parameters x) (zeroed own.first (early_variables d) t)
+      related_start : Related (context_of p lane earlier d) V own.first (InOr (length d.variables) (known_at_start d)) (first_state (context_of p lane earlier d) d parameters x) (zeroed own.first (variables_used_undeclared d) t)
       related_start = record {
-        exchange = begins.exchange ∙ sym (zeroed_exchange own.first (early_variables d) t);
-        sizes = first_sizes (context_of p lane earlier d) V t own.first d.variables d.parameters parameters begins.flat_sizes is.there begins.exact begins.held place.own_type;
-        flat_sizes = zeroed_sizes own.first (early_variables d) t ∙ begins.flat_sizes;
+        exchange = begins.exchange ∙ sym (zeroed_exchange own.first (variables_used_undeclared d) t);
+        sizes = first_sizes (context_of p lane earlier d) V t own.first d.variables d.parameters parameters begins.flat_sizes is.there begins.exact begins.held own_typed;
+        flat_sizes = zeroed_sizes own.first (variables_used_undeclared d) t ∙ begins.flat_sizes;
         same = λ v low known. by_known v low known;
-        constants = λ k lower. zeroed_other own.first (early_variables d) t k (λ v there e. omega (arith, e, lower, place.below)) ∙ begins.constants k lower;
+        constants = λ k lower. zeroed_other own.first (variables_used_undeclared d) t k (λ v there e. omega (arith, e, lower, place.below)) ∙ begins.constants k lower;
       }
         where
-          by_side : (v : ℕ) → In (parameter_numbers d) v ⊎ In (early_variables d) v → variable_words (zeroed own.first (early_variables d) t) (own.first + v) ≡ variable_words (first_state (context_of p lane earlier d) d parameters x) v
+          by_side : (v : ℕ) → In (parameter_numbers d) v ⊎ In (variables_used_undeclared d) v → variable_words (zeroed own.first (variables_used_undeclared d) t) (own.first + v) ≡ variable_words (first_state (context_of p lane earlier d) d parameters x) v
           by_side v (inl there) = parameter_same v (omega (arith, (range_bounds 0 (length d.parameters) v there).1))
-          by_side v (inr there) = early_same v there
+          by_side v (inr there) = used_undeclared_same v there
 
-          by_known : (v : ℕ) → v < length d.variables → InOr (length d.variables) (known_at_start d) v → variable_words (zeroed own.first (early_variables d) t) (own.first + v) ≡ variable_words (first_state (context_of p lane earlier d) d parameters x) v
-          by_known v low (inl there) = by_side v (in_append_cases (parameter_numbers d) (early_variables d) v there)
+          by_known : (v : ℕ) → v < length d.variables → InOr (length d.variables) (known_at_start d) v → variable_words (zeroed own.first (variables_used_undeclared d) t) (own.first + v) ≡ variable_words (first_state (context_of p lane earlier d) d parameters x) v
+          by_known v low (inl there) = by_side v (in_append_cases (parameter_numbers d) (variables_used_undeclared d) v there)
           by_known v low (inr past) = absurd (omega (arith, low, past))
 
       -- behind the body
       ends_here : (numbers : List ℕ) → ((v : ℕ) → InOr (length d.variables) (known_at_start d) v → InOr (length d.variables) numbers v) → (result : List ℕ) (s u : State) →
-          Related (context_of p lane earlier d) V own.first (InOr (length d.variables) numbers) s u → Keeps own.first count (next_of fresh) (zeroed own.first (early_variables d) t) u → (is_void d.result ≡ false → variable_words u own.result ≡ result) →
+          Related (context_of p lane earlier d) V own.first (InOr (length d.variables) numbers) s u → Keeps own.first count (next_of fresh) (zeroed own.first (variables_used_undeclared d) t) u → (is_void d.result ≡ false → variable_words u own.result ≡ result) →
           EndsAs (context_of p lane earlier d) V own (inlined before d) count (next_of fresh) t result s u
       ends_here numbers known result s u related keep held = record {
         exchange = related.exchange;
         flat_sizes = related.flat_sizes;
         held = held_from u own.first d.parameters s.variables (omega (arith, is.there, count_by_sizes (context_of p lane earlier d) d.variables s related.sizes))
-            (λ v low. related.same v (omega (arith, low, is.there)) (known v (inl (in_front (parameter_numbers d) (early_variables d) v (in_range 0 (length d.parameters) v (omega arith) (omega (arith, low)))))) ∙ unwrap_or-slice_get s.variables v []);
-        keeps = λ w lower outside. keep w lower outside ∙ zeroed_other own.first (early_variables d) t w (λ v there e. apart w v outside there e);
+            (λ v low. related.same v (omega (arith, low, is.there)) (known v (inl (in_front (parameter_numbers d) (variables_used_undeclared d) v (in_range 0 (length d.parameters) v (omega arith) (omega (arith, low)))))) ∙ unwrap_or-slice_get s.variables v []);
+        keeps = λ w lower outside. keep w lower outside ∙ zeroed_other own.first (variables_used_undeclared d) t w (λ v there e. apart w v outside there e);
         result_held = held;
       }
         where
-          apart : (w v : ℕ) → IsOutside own.first count w → In (early_variables d) v → w ≡ own.first + v → ⊥
+          apart : (w v : ℕ) → IsOutside own.first count w → In (variables_used_undeclared d) v → w ≡ own.first + v → ⊥
           apart w v (inl below) there e = omega (arith, below, e)
-          apart w v (inr above) there e = omega (arith, above, e, (early_behind d v there).1, place.large)
+          apart w v (inr above) there e = omega (arith, above, e, (used_undeclared_behind d v there).1, large_here)
 
       abbrev Behind : List ℕ → State → State → Type 0
-      Behind numbers s u = Related (context_of p lane earlier d) V own.first (InOr (length d.variables) numbers) s u × Keeps own.first count (next_of fresh) (zeroed own.first (early_variables d) t) u
+      Behind numbers s u = Related (context_of p lane earlier d) V own.first (InOr (length d.variables) numbers) s u × Keeps own.first count (next_of fresh) (zeroed own.first (variables_used_undeclared d) t) u
 
       abbrev Returned : List ℕ → State → Type 0
       Returned value u = is_void d.result ≡ false → variable_words u own.result ≡ value
 
-      laid_code : DoesAs own.exit 0 0 (Behind (declared_in (known_at_start d) d.body)) (Behind (known_at_start d)) (Behind (known_at_start d)) Returned
-          (does_all (context_of p lane earlier d) n d.body (first_state (context_of p lane earlier d) d parameters x)) (perform f lane n (lay_all before own outside_loops d.body fresh).code (zeroed own.first (early_variables d) t))
-      laid_code =
-          all_laid (context_of p lane earlier d) V own.first stands_here f lane n (knows d) before own refl bodies callees_in some_params sound_here (place_value (context_of p lane earlier d)) (variables_some p (length earlier) d is)
-          count place.large place.result_place place.result_type d.body false is.body (known_at_start d) (function_covered d) outside_loops fresh (place.room, place.front, place.exit)
-          (first_state (context_of p lane earlier d) d parameters x) (zeroed own.first (early_variables d) t) related_start
+      emitted_code : DoesAs own.exit 0 0 (Behind (declared_in (known_at_start d) d.body)) (Behind (known_at_start d)) (Behind (known_at_start d)) Returned
+          (does_all (context_of p lane earlier d) n d.body (first_state (context_of p lane earlier d) d parameters x)) (perform f lane n (emit_stmts before own outside_loops d.body fresh).code (zeroed own.first (variables_used_undeclared d) t))
+      emitted_code =
+          all_emitted (context_of p lane earlier d) V own.first stands_here f lane n (knows d) before own refl bodies callees_in some_params sound_here (place_value (context_of p lane earlier d)) (variables_some p (length earlier) d is)
+          count large_here result_there place.result_type d.body false is.body (known_at_start d) (function_covered d) outside_loops fresh (place.room, place.front, place.exit)
+          (first_state (context_of p lane earlier d) d parameters x) (zeroed own.first (variables_used_undeclared d) t) related_start
 
       -- the body in its name, which a `return` leaves
-      named_body : (r : Progress FlatLeaving) → perform f lane n (lay_all before own outside_loops d.body fresh).code (zeroed own.first (early_variables d) t) ≡ r →
+      named_body : (r : Progress FlatLeaving) → perform f lane n (emit_stmts before own outside_loops d.body fresh).code (zeroed own.first (variables_used_undeclared d) t) ≡ r →
           perform f lane n (body_code (inlined before d) own fresh) t ≡ after r (named_end own.exit)
       named_body r e =
-          perform_one f lane n (flat_named own.exit (flat_block (flat_stmts_of (zeros_first own d ++ (lay_all before own outside_loops d.body fresh).code)))) t ∙
+          perform_one f lane n (flat_named own.exit (flat_block (flat_stmts_of (zeros_first own d ++ (emit_stmts before own outside_loops d.body fresh).code)))) t ∙
           ap (λ q. after q (named_end own.exit))
-          (perform_next f lane n (zeros_first own d) (lay_all before own outside_loops d.body fresh).code t (zeroed own.first (early_variables d) t) (zeroed_runs f lane n own.first (early_variables d) t) ∙ e)
+          (perform_next f lane n (zeros_first own d) (emit_stmts before own outside_loops d.body fresh).code t (zeroed own.first (variables_used_undeclared d) t) (zeroed_runs f lane n own.first (variables_used_undeclared d) t) ∙ e)
 
       runs_here : Runs (EndsAs (context_of p lane earlier d) V own (inlined before d) count (next_of fresh) t) (callee_of (context_of p lane earlier d) n d parameters x) (perform f lane n (body_code (inlined before d) own fresh) t)
       runs_here =
-          by_leaving (does_all (context_of p lane earlier d) n d.body (first_state (context_of p lane earlier d) d parameters x)) (leaves_here (first_state (context_of p lane earlier d) d parameters x)) laid_code
+          by_leaving (does_all (context_of p lane earlier d) n d.body (first_state (context_of p lane earlier d) d parameters x)) (leaves_here (first_state (context_of p lane earlier d) d parameters x)) emitted_code
         where
           by_leaving : (q : Progress Leaving) → Yields (LeavesAs (context_of p lane earlier d) n sound_here false (one_returns d.body)) q →
-              DoesAs own.exit 0 0 (Behind (declared_in (known_at_start d) d.body)) (Behind (known_at_start d)) (Behind (known_at_start d)) Returned q (perform f lane n (lay_all before own outside_loops d.body fresh).code (zeroed own.first (early_variables d) t)) →
-              Runs (EndsAs (context_of p lane earlier d) V own (inlined before d) count (next_of fresh) t) (after q (λ leaving s. goes_with (value_of leaving) s)) (perform f lane n (body_code (inlined before d) own fresh) t)
+              DoesAs own.exit 0 0 (Behind (declared_in (known_at_start d) d.body)) (Behind (known_at_start d)) (Behind (known_at_start d)) Returned q (perform f lane n (emit_stmts before own outside_loops d.body fresh).code (zeroed own.first (variables_used_undeclared d) t)) →
+              Runs (EndsAs (context_of p lane earlier d) V own (inlined before d) count (next_of fresh) t) (after q (λ leaving s. goes_with (returned_value leaving) s)) (perform f lane n (body_code (inlined before d) own fresh) t)
           by_leaving (ends_at run) l e = named_body (ends_at run) e
           by_leaving (goes_with at_end s) l (u, e, b) = (
             u,

@@ -10,7 +10,10 @@ use Rattle.hl_meaning.specs.Trees.{Args, Expr, Form, an_expr, call_form, literal
 use Rattle.hl_meaning.specs.Views.{plain_expr, plain_form}
 use Rattle.hl_inline.specs.FlatTrees.{FlatStmt, flat_local}
 use Rattle.hl_inline.specs.declared.emitting.Formed.{Formed}
-use Rattle.hl_inline.specs.Flattening.{Fresh, Inlined, Instance, Valued, args_emitters, call, emitted, form_emitter, inlined_at, next_of, saved, settled}
+use Rattle.hl_inline.specs.EmittedExpressions.{args_emitters, emitted, form_emitter}
+use Rattle.hl_inline.specs.Emitting.{Valued, saved, settled}
+use Rattle.hl_inline.specs.Fresh.{Fresh, Instance, next_of}
+use Rattle.hl_inline.specs.InlinedCalls.{Inlined, call, inlined_at}
 use Rattle.hl_inline.specs.Building.{behind, made, operand_behind, valued}
 
 -- a form, emitted

@@ -9,7 +9,7 @@ use Rattle.hl_meaning.specs.Trees.{PathParts, a_location, an_expr, variable_root
 use Rattle.hl_meaning.specs.Trees as plain
 use Rattle.hl_meaning.specs.Views.{plain_expr, plain_form, plain_location, plain_parts, plain_root, plain_ty}
 use Rattle.hl_meaning.proofs.Plain.{plain_expr-is, plain_location-is, plain_root-Variable}
-use Rattle.hl_inline.specs.Flattening.{place_of_variable}
+use Rattle.hl_inline.specs.Emitting.{place_of_variable}
 
 pub expr-as : (e : Expr) (ty : Ty) (form : plain.Form) → plain_ty e.ty ≡ ty → plain_form e.form ≡ form → plain_expr e ≡ an_expr ty e.at form
 expr-as e ty form a b = plain_expr-is e ∙ (ap (λ t. an_expr t e.at (plain_form e.form)) a ∙ ap (an_expr ty e.at) b)

@@ -15,8 +15,8 @@ use Rattle.hl_meaning.specs.Views.{plain_constant, plain_variable}
 use Rattle.hl_inline.specs.declared.fresh.Fresh.{Fresh}
 use Rattle.hl_inline.specs.Building.{plain_fresh}
 use Rattle.hl_inline.specs.FlatTrees.{FlatStmt, flat_input, flat_local}
-use Rattle.hl_inline.specs.Flattening as flattening
-use Rattle.hl_inline.specs.Flattening.{constant_value, literals, set_constants, set_inputs, with_variables}
+use Rattle.hl_inline.specs.Fresh.{Fresh as PlainFresh, nameless, with_variables}
+use Rattle.hl_inline.specs.InlinedPrograms.{constant_value, literals, set_constants, set_inputs}
 use Rattle.hl_inline.proofs.Gathering.{drop-next, take-next}
 
 -- variables
@@ -34,23 +34,24 @@ fresh-more now end variable v grown names is =
     (ap (map plain_variable) grown ∙ (map-append plain_variable now.variables (variable ∷ []) ∙ ap (λ w. map plain_variable now.variables ++ w ∷ []) is)) names
 
 -- variables one behind the other
-pub variables-then : (first second : List Variable) (fresh : flattening.Fresh) → with_variables second (with_variables first fresh) ≡ with_variables (first ++ second) fresh
+pub variables-then : (first second : List Variable) (fresh : PlainFresh) → with_variables second (with_variables first fresh) ≡ with_variables (first ++ second) fresh
 variables-then first second fresh = ap (λ (v : List Variable). record { variables = v; names = fresh.names }) (append_assoc fresh.variables first second)
 
--- one more copy
-pub copies-next : (start now end : Fresh) (xs : List held.Variable) (i : ℕ) (x copy : held.Variable) → i < length xs → x ≡ get_or xs i x
-    → plain_fresh now ≡ with_variables (map plain_variable (take i xs)) (plain_fresh start) → plain_variable copy ≡ plain_variable x
-    → end.variables ≡ now.variables ++ copy ∷ [] → end.names ≡ now.names → plain_fresh end ≡ with_variables (map plain_variable (take (i + 1) xs)) (plain_fresh start)
-copies-next start now end xs i x copy within is e same grown names =
-    fresh-more now end copy (plain_variable x) grown names same ∙ (ap (with_variables (plain_variable x ∷ [])) e ∙
-    (variables-then (map plain_variable (take i xs)) (plain_variable x ∷ []) (plain_fresh start) ∙ ap (λ l. with_variables l (plain_fresh start)) (sym (take-next plain_variable xs i x within is))))
+-- one more without its name
+pub nameless-next : (start now end : Fresh) (xs : List held.Variable) (i : ℕ) (x : held.Variable) → i < length xs → x ≡ get_or xs i x
+    → plain_fresh now ≡ with_variables (map nameless (map plain_variable (take i xs))) (plain_fresh start)
+    → plain_fresh end ≡ with_variables (nameless (plain_variable x) ∷ []) (plain_fresh now) → plain_fresh end ≡ with_variables (map nameless (map plain_variable (take (i + 1) xs))) (plain_fresh start)
+nameless-next start now end xs i x within is e grown =
+    grown ∙ (ap (with_variables (nameless (plain_variable x) ∷ [])) e ∙
+    (variables-then (map nameless (map plain_variable (take i xs))) (nameless (plain_variable x) ∷ []) (plain_fresh start) ∙
+    ap (λ l. with_variables l (plain_fresh start)) (sym (ap (map nameless) (take-next plain_variable xs i x within is) ∙ map-append nameless (map plain_variable (take i xs)) (plain_variable x ∷ [])))))
 
-pub no-copies : (fresh : Fresh) → plain_fresh fresh ≡ with_variables [] (plain_fresh fresh)
-no-copies fresh = ap (λ (v : List Variable). record { variables = v; names = fresh.names }) (sym (append-nil (map plain_variable fresh.variables)))
+pub none-yet : (fresh : Fresh) → plain_fresh fresh ≡ with_variables [] (plain_fresh fresh)
+none-yet fresh = ap (λ (v : List Variable). record { variables = v; names = fresh.names }) (sym (append-nil (map plain_variable fresh.variables)))
 
-pub copies-end : (start now : Fresh) (xs : List held.Variable) (i : ℕ) → length xs ≤ i → plain_fresh now ≡ with_variables (map plain_variable (take i xs)) (plain_fresh start)
-    → plain_fresh now ≡ with_variables (map plain_variable xs) (plain_fresh start)
-copies-end start now xs i past e = e ∙ ap (λ l. with_variables (map plain_variable l) (plain_fresh start)) (take_all i xs past)
+pub nameless-end : (start now : Fresh) (xs : List held.Variable) (i : ℕ) → length xs ≤ i → plain_fresh now ≡ with_variables (map nameless (map plain_variable (take i xs))) (plain_fresh start)
+    → plain_fresh now ≡ with_variables (map nameless (map plain_variable xs)) (plain_fresh start)
+nameless-end start now xs i past e = e ∙ ap (λ l. with_variables (map nameless (map plain_variable l)) (plain_fresh start)) (take_all i xs past)
 
 -- statements that a list gives, one after another
 

@@ -5,8 +5,14 @@ use Rattle.hl_meaning.specs.declared.program.Parameter.{Parameter}
 use Rattle.hl_meaning.specs.Types.{Ty}
 use Rattle.hl_meaning.specs.Trees.{Args, Expr, Form, MaybeStmt, Stmt, Stmts, an_expr, atomic_form, binary_form, block_stmt, break_stmt, build_form, call_form, choose_form, continue_stmt, convert_form, do_stmt, for_stmt, if_stmt, intrinsic_form, literal_form, local_stmt, method_form, more_args, more_stmts, no_args, no_stmt, no_stmts, pick_form, place_arg, read_form, return_stmt, run_stmt, some_stmt, type_of, unary_form, value_arg, while_stmt, write_form}
 use Rattle.hl_meaning.specs.Programs.{FunctionDef}
-use Rattle.hl_inline.specs.Operands.{args_exprs, operand_exprs, place_exprs}
-use Rattle.hl_inline.specs.Flattening.{Argument, Emitter, Fresh, Inlined, Instance, Jumps, Valued, any_calls, call, emit_all, emitted, emitter, inlined, inlined_at, instance_of, is_call, jumps_of, lay, lay_all, lay_if, lay_local, lay_return, lay_run, lay_run_if, lay_test_if, next_of, outside_loops, pass_all, place_argument, result_variables, run_of, saved, settled, token_of, unnamed, value_argument, with_instance, with_jumps}
+use Rattle.hl_inline.proofs.OperandExpressions.{args_exprs, operand_exprs}
+use Rattle.hl_inline.specs.Operands.{place_exprs}
+use Rattle.hl_inline.specs.EmittedExpressions.{emitted, emitter}
+use Rattle.hl_inline.specs.EmittedStatements.{Jumps, emit_local, emit_return, emit_run, emit_run_if, emit_stmt, emit_stmt_if, emit_stmts, emit_test_if, is_call, jumps_of, run_of, with_jumps}
+use Rattle.hl_inline.specs.Emitting.{Emitter, Valued, any_call, emit_all, saved, settled, token_of}
+use Rattle.hl_inline.specs.Fresh.{Fresh, Instance, next_of, unnamed}
+use Rattle.hl_inline.specs.InlinedCalls.{Argument, Inlined, call, inlined_at, instance_of, pass_all, place_argument, result_variables, value_argument, with_instance}
+use Rattle.hl_inline.specs.InlinedFunctions.{inlined, outside_loops}
 use Rattle.hl_inline.proofs.Induction.{Every, Step, by_operands, every_back, every_front}
 use Rattle.hl_inline.proofs.OperandLemmas.{form_emitter_all, is_call_form, args_by, args_emitters_all}
 use Rattle.hl_inline.proofs.Fronts.{IsFront, front_more, front_refl, front_trans}
@@ -41,8 +47,8 @@ operands_grow : (further : Bool) (es : List Emitter) → Every EmitterGrows es �
 operands_grow further [] all fresh = grows_refl fresh
 operands_grow further (e ∷ es) all fresh =
     grows_trans fresh (e.emit fresh).fresh _ (all.0 fresh)
-    (grows_trans (e.emit fresh).fresh (settled (further || any_calls es) (e.emit fresh)).fresh _ (settled_grow (further || any_calls es) (e.emit fresh))
-    (operands_grow further es all.1 (settled (further || any_calls es) (e.emit fresh)).fresh))
+    (grows_trans (e.emit fresh).fresh (settled (further || any_call es) (e.emit fresh)).fresh _ (settled_grow (further || any_call es) (e.emit fresh))
+    (operands_grow further es all.1 (settled (further || any_call es) (e.emit fresh)).fresh))
 
 -- calls
 
@@ -109,26 +115,26 @@ module _ (k : List Inlined) (i : Instance) (bodies : (function : ℕ) → BodyGr
 
   -- statements
 
-  pub run_grows : (value : Expr) (fresh : Fresh) → Grows fresh (lay_run k i value fresh).fresh
+  pub run_grows : (value : Expr) (fresh : Fresh) → Grows fresh (emit_run k i value fresh).fresh
   run_grows value fresh = by_test (is_call value)
     where
       by_test : (b : Bool) → Grows fresh (run_of b (emitted k i value fresh)).fresh
       by_test true = value_grows value fresh
       by_test false = value_grows value fresh
 
-  pub run_if_grows : (value : Option Expr) (fresh : Fresh) → Grows fresh (lay_run_if k i value fresh).fresh
+  pub run_if_grows : (value : Option Expr) (fresh : Fresh) → Grows fresh (emit_run_if k i value fresh).fresh
   run_if_grows None fresh = grows_refl fresh
   run_if_grows (Some value) fresh = run_grows value fresh
 
-  pub test_if_grows : (name : ℕ) (cond : Option Expr) (fresh : Fresh) → Grows fresh (lay_test_if k i name cond fresh).fresh
+  pub test_if_grows : (name : ℕ) (cond : Option Expr) (fresh : Fresh) → Grows fresh (emit_test_if k i name cond fresh).fresh
   test_if_grows name None fresh = grows_refl fresh
   test_if_grows name (Some cond) fresh = value_grows cond fresh
 
-  local_grows : (variable : ℕ) (init : Option Expr) (fresh : Fresh) → Grows fresh (lay_local k i variable init fresh).fresh
+  local_grows : (variable : ℕ) (init : Option Expr) (fresh : Fresh) → Grows fresh (emit_local k i variable init fresh).fresh
   local_grows variable None fresh = grows_refl fresh
   local_grows variable (Some init) fresh = value_grows init fresh
 
-  return_grows : (value : Option Expr) (fresh : Fresh) → Grows fresh (lay_return k i value fresh).fresh
+  return_grows : (value : Option Expr) (fresh : Fresh) → Grows fresh (emit_return k i value fresh).fresh
   return_grows None fresh = grows_refl fresh
   return_grows (Some value) fresh = value_grows value fresh
 
@@ -136,43 +142,43 @@ module _ (k : List Inlined) (i : Instance) (bodies : (function : ℕ) → BodyGr
   jumps_grow fresh after g = record { front = g.front; names = omega (arith, g.names) }
 
   -- a test, a body and a step
-  pub loop_grows : (cond step : Option Expr) (body : Stmt) (fresh : Fresh) → ((j : Jumps) (fresh' : Fresh) → Grows fresh' (lay k i j body fresh').fresh) →
-      Grows fresh (lay_run_if k i step (lay k i (jumps_of fresh) body (lay_test_if k i fresh.names cond (with_jumps fresh)).fresh).fresh).fresh
+  pub loop_grows : (cond step : Option Expr) (body : Stmt) (fresh : Fresh) → ((j : Jumps) (fresh' : Fresh) → Grows fresh' (emit_stmt k i j body fresh').fresh) →
+      Grows fresh (emit_run_if k i step (emit_stmt k i (jumps_of fresh) body (emit_test_if k i fresh.names cond (with_jumps fresh)).fresh).fresh).fresh
   loop_grows cond step body fresh grows =
-      let tested : Fresh = (lay_test_if k i fresh.names cond (with_jumps fresh)).fresh in
-      let bodied : Fresh = (lay k i (jumps_of fresh) body tested).fresh in
+      let tested : Fresh = (emit_test_if k i fresh.names cond (with_jumps fresh)).fresh in
+      let bodied : Fresh = (emit_stmt k i (jumps_of fresh) body tested).fresh in
       jumps_grow fresh _
       (grows_trans (with_jumps fresh) tested _ (test_if_grows fresh.names cond (with_jumps fresh))
       (grows_trans tested bodied _ (grows (jumps_of fresh) tested) (run_if_grows step bodied)))
 
   mutual
-    pub stmt_grows : (stmt : Stmt) (j : Jumps) (fresh : Fresh) → Grows fresh (lay k i j stmt fresh).fresh
+    pub stmt_grows : (stmt : Stmt) (j : Jumps) (fresh : Fresh) → Grows fresh (emit_stmt k i j stmt fresh).fresh
     stmt_grows (block_stmt body) j fresh = stmts_grow body j fresh
     stmt_grows (local_stmt variable init) j fresh = local_grows variable init fresh
     stmt_grows (run_stmt value) j fresh = run_grows value fresh
     stmt_grows (if_stmt cond consequent alternative) j fresh =
         grows_trans fresh (emitted k i cond fresh).fresh _ (value_grows cond fresh)
-        (grows_trans (emitted k i cond fresh).fresh (lay k i j consequent (emitted k i cond fresh).fresh).fresh _ (stmt_grows consequent j (emitted k i cond fresh).fresh)
-        (maybe_grows alternative j (lay k i j consequent (emitted k i cond fresh).fresh).fresh))
+        (grows_trans (emitted k i cond fresh).fresh (emit_stmt k i j consequent (emitted k i cond fresh).fresh).fresh _ (stmt_grows consequent j (emitted k i cond fresh).fresh)
+        (maybe_grows alternative j (emit_stmt k i j consequent (emitted k i cond fresh).fresh).fresh))
     stmt_grows (for_stmt init cond step body) j fresh =
-        grows_trans fresh (lay_all k i j init fresh).fresh _ (stmts_grow init j fresh)
-        (loop_grows cond step body (lay_all k i j init fresh).fresh (λ j' fresh'. stmt_grows body j' fresh'))
+        grows_trans fresh (emit_stmts k i j init fresh).fresh _ (stmts_grow init j fresh)
+        (loop_grows cond step body (emit_stmts k i j init fresh).fresh (λ j' fresh'. stmt_grows body j' fresh'))
     stmt_grows (while_stmt cond body) j fresh =
         jumps_grow fresh _
         (grows_trans (with_jumps fresh) (emitted k i cond (with_jumps fresh)).fresh _ (value_grows cond (with_jumps fresh)) (stmt_grows body (jumps_of fresh) (emitted k i cond (with_jumps fresh)).fresh))
     stmt_grows (do_stmt body cond) j fresh =
         jumps_grow fresh _
-        (grows_trans (with_jumps fresh) (lay k i (jumps_of fresh) body (with_jumps fresh)).fresh _ (stmt_grows body (jumps_of fresh) (with_jumps fresh)) (value_grows cond (lay k i (jumps_of fresh) body (with_jumps fresh)).fresh))
+        (grows_trans (with_jumps fresh) (emit_stmt k i (jumps_of fresh) body (with_jumps fresh)).fresh _ (stmt_grows body (jumps_of fresh) (with_jumps fresh)) (value_grows cond (emit_stmt k i (jumps_of fresh) body (with_jumps fresh)).fresh))
     stmt_grows break_stmt j fresh = grows_refl fresh
     stmt_grows continue_stmt j fresh = grows_refl fresh
     stmt_grows (return_stmt value) j fresh = return_grows value fresh
 
-    pub stmts_grow : (stmts : Stmts) (j : Jumps) (fresh : Fresh) → Grows fresh (lay_all k i j stmts fresh).fresh
+    pub stmts_grow : (stmts : Stmts) (j : Jumps) (fresh : Fresh) → Grows fresh (emit_stmts k i j stmts fresh).fresh
     stmts_grow no_stmts j fresh = grows_refl fresh
     stmts_grow (more_stmts first rest) j fresh =
-        grows_trans fresh (lay k i j first fresh).fresh _ (stmt_grows first j fresh) (stmts_grow rest j (lay k i j first fresh).fresh)
+        grows_trans fresh (emit_stmt k i j first fresh).fresh _ (stmt_grows first j fresh) (stmts_grow rest j (emit_stmt k i j first fresh).fresh)
 
-    pub maybe_grows : (stmt : MaybeStmt) (j : Jumps) (fresh : Fresh) → Grows fresh (lay_if k i j stmt fresh).fresh
+    pub maybe_grows : (stmt : MaybeStmt) (j : Jumps) (fresh : Fresh) → Grows fresh (emit_stmt_if k i j stmt fresh).fresh
     maybe_grows no_stmt j fresh = grows_refl fresh
     maybe_grows (some_stmt body) j fresh = stmt_grows body j fresh
 

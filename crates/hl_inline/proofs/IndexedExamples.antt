@@ -7,7 +7,7 @@ use Rattle.hl_meaning.specs.Programs.{FunctionDef, Program}
 use Rattle.hl_meaning.specs.Layout.{kinds_of, words_of}
 use Rattle.hl_source.proofs.SmallPrograms.{expr, function, place_read, program_with, set_place, uint_word, uints, variable, variable_read}
 use Rattle.hl_inline.specs.IndexedVariables.{flat_indexed_lengths, indexed_lengths}
-use Rattle.hl_inline.specs.Flattening.{flattened}
+use Rattle.hl_inline.specs.InlinedPrograms.{inlined_program}
 
 -- an index by a variable, and by a number
 abbrev by_variable : (number : ℕ) → PathParts
@@ -41,8 +41,8 @@ counts_each_call : indexed_lengths calls_twice ≡ 4 ∷ 3 ∷ 3 ∷ []
 unfolding indexed_lengths words_of
 counts_each_call = refl
 
-keeps_each_call : flat_indexed_lengths (flattened calls_twice) ≡ 4 ∷ 3 ∷ 3 ∷ []
-unfolding flattened flat_indexed_lengths words_of kinds_of
+keeps_each_call : flat_indexed_lengths (inlined_program calls_twice) ≡ 4 ∷ 3 ∷ 3 ∷ []
+unfolding inlined_program flat_indexed_lengths words_of kinds_of
 keeps_each_call = refl
 
 -- uint x; x = N[1];

@@ -3,7 +3,8 @@ use Rattle.std.proofs.Common.{ℕ, List, [], ◌∷◌, ◌++◌, zero, suc, ari
 use Rattle.std.specs.List.{All}
 use Rattle.hl_meaning.specs.Types.{Ty}
 use Rattle.hl_meaning.specs.Trees.{Arg, Args, Expr, Exprs, Form, Location, MaybeExpr, MaybeLocation, PathParts, Root, Target, a_location, an_expr, atomic_form, binary_form, build_form, bytes_target, call_form, choose_form, constant_root, convert_form, element_root, index_part, intrinsic_form, literal_form, member_part, method_form, more_args, more_exprs, more_parts, no_args, no_expr, no_exprs, no_location, no_parts, pick_form, place_arg, place_target, read_form, shared_root, some_expr, some_location, swizzle_part, unary_form, value_arg, variable_root, write_form}
-use Rattle.hl_inline.specs.Operands.{arg_exprs, args_exprs, expr_if_list, exprs_list, operand_exprs, parts_exprs, place_exprs, place_if_exprs, root_exprs, target_exprs}
+use Rattle.hl_inline.proofs.OperandExpressions.{arg_exprs, args_exprs, expr_if_list, exprs_list, operand_exprs, place_if_exprs}
+use Rattle.hl_inline.specs.Operands.{parts_exprs, place_exprs, root_exprs, target_exprs}
 
 -- something holds of each of a list
 abbrev pub Every : {A : Type 0} → (A → Type 0) → List A → Type 0

@@ -9,11 +9,11 @@ use Rattle.lane_core.specs.Lane.{Run}
 use Rattle.hl_source.specs.SourceLane.{source_lane}
 use Rattle.hl_source.proofs.Runs.{never_wrong}
 use Rattle.hl_inline.specs.FlatLane.{flat_lane}
-use Rattle.hl_inline.specs.Flattening.{flattened}
-use Rattle.hl_inline.specs.Keeps.{FlattenedIsFlat, FlattenedKeeps, KeptIsSameLane}
+use Rattle.hl_inline.specs.InlinedPrograms.{inlined_program}
+use Rattle.hl_inline.specs.Keeps.{InlinedIsFlat, InlinedKeeps, KeptIsSameLane}
 use Rattle.hl_inline.proofs.Whole.{keeps_meaning}
 use Rattle.hl_inline.proofs.TouchedPrograms.{keeps_lengths}
-use Rattle.hl_inline.proofs.FlatProgram.{flattened_is_flat}
+use Rattle.hl_inline.proofs.FlatProgram.{inlined_program_is_flat}
 use mathlib.Core.Sum.{⊎_set}
 
 event_set : IsSet Event
@@ -26,14 +26,14 @@ run_set : IsSet (Option Run)
 run_set = hlevel (props, ⊎_set, event_set, asked_set)
 
 -- what a program becomes keeps all that it has to
-pub flattened_keeps : FlattenedKeeps
-unfolding flattened
-flattened_keeps p well = record {
+pub inlined_keeps : InlinedKeeps
+unfolding inlined_program
+inlined_keeps p well = record {
   structs = refl;
   resources = refl;
   shared = refl;
   threads = refl;
-  runs = λ n lane replies. ∥∥₁_elim well (run_set (flat_lane (flattened p) n lane replies) (source_lane p n lane replies)) (λ w. keeps_meaning p w n lane replies);
+  runs = λ n lane replies. ∥∥₁_elim well (run_set (flat_lane (inlined_program p) n lane replies) (source_lane p n lane replies)) (λ w. keeps_meaning p w n lane replies);
   lengths = ∥∥₁_map well (keeps_lengths p);
 }
 
@@ -48,5 +48,5 @@ kept_same_lane p f kept = record {
 }
 
 -- it is well formed too
-pub flattened_flat : FlattenedIsFlat
-flattened_flat p well few = ∥∥₁_map well (λ w. flattened_is_flat p w few)
+pub inlined_program_flat : InlinedIsFlat
+inlined_program_flat p well few = ∥∥₁_map well (λ w. inlined_program_is_flat p w few)

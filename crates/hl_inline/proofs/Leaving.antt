@@ -4,7 +4,7 @@ use Rattle.std.specs.Prelude.{◌&&◌, ◌||◌, if◌then◌else◌, IsTrue}
 use Rattle.hl_meaning.specs.Trees.{Expr, MaybeStmt, Stmt, Stmts, block_stmt, break_stmt, continue_stmt, do_stmt, for_stmt, if_stmt, local_stmt, more_stmts, no_stmt, no_stmts, return_stmt, run_stmt, some_stmt, type_of, while_stmt}
 use Rattle.hl_meaning.specs.WellFormed.{AreStmts, IsExpr, IsStmt, IsStmtIf, always_returns, one_returns, returns_if}
 use Rattle.hl_source.specs.State.{Context, Progress, State, after, goes_with, ends_at, with_variable}
-use Rattle.hl_source.specs.Statements.{Doing, Leaving, at_end, by_break, by_continue, by_return, choice, computes, computes_if, condition, condition_if, declares, does, does_all, does_if, leaves, returns, tested_turn, testing_turn, then_loop, then_next, then_turn, turns}
+use Rattle.hl_source.specs.Statements.{Doing, Leaving, after_body, after_statement, after_turn, at_end, by_break, by_continue, by_return, choice, computes, computes_if, condition, condition_if, declares, do_turn, does, does_all, does_if, for_turn, leaves, returns, turns}
 use Rattle.hl_source.specs.Expressions.{evaluates}
 use Rattle.hl_inline.proofs.FittingWords.{Fits}
 use Rattle.hl_inline.proofs.Performing.{Yields}
@@ -43,7 +43,7 @@ module _ (c : Context) (n : ℕ) (sound : (e : Expr) → IsExpr c.scope e → Ha
 
   -- one after another: the second runs where the first comes to its end
   next_leaves : (in_loop first second : Bool) (p : Progress Leaving) (next : Doing) → Yields (LeavesAs in_loop first) p → ((s : State) → Yields (LeavesAs in_loop second) (next s)) →
-      Yields (LeavesAs in_loop (first || second)) (after p (then_next next))
+      Yields (LeavesAs in_loop (first || second)) (after p (after_statement next))
   next_leaves in_loop first second (ends_at run) next h h' = tt
   next_leaves in_loop first second (goes_with at_end s) next h h' =
       yields_map (LeavesAs in_loop second) (LeavesAs in_loop (first || second)) (λ leaving l. by_leaving leaving l) (next s) (h' s)
@@ -83,29 +83,29 @@ module _ (c : Context) (n : ℕ) (sound : (e : Expr) → IsExpr c.scope e → Ha
   turns_leaves in_loop zero turn h s = tt
   turns_leaves in_loop (suc k) turn h s = by_turn (λ s1. turns_leaves in_loop k turn h s1) (turn s) (h s)
     where
-      by_turn : ((s1 : State) → Yields (LeavesAs in_loop false) (turns k turn s1)) → (p : Progress Leaving) → Yields (LeavesAs true false) p → Yields (LeavesAs in_loop false) (after p (then_loop (turns k turn)))
+      by_turn : ((s1 : State) → Yields (LeavesAs in_loop false) (turns k turn s1)) → (p : Progress Leaving) → Yields (LeavesAs true false) p → Yields (LeavesAs in_loop false) (after p (after_turn (turns k turn)))
       by_turn next (ends_at run) l = tt
       by_turn next (goes_with at_end s1) l = next s1
       by_turn next (goes_with by_break s1) l = refl
       by_turn next (goes_with by_continue s1) l = next s1
       by_turn next (goes_with (by_return value) s1) l = l
 
-  turn_leaves : (r : Bool) (p : Progress Leaving) (next : Doing) → Yields (LeavesAs true r) p → ((s : State) → Yields (LeavesAs true false) (next s)) → Yields (LeavesAs true false) (after p (then_turn next))
+  turn_leaves : (r : Bool) (p : Progress Leaving) (next : Doing) → Yields (LeavesAs true r) p → ((s : State) → Yields (LeavesAs true false) (next s)) → Yields (LeavesAs true false) (after p (after_body next))
   turn_leaves r (ends_at run) next h h' = tt
   turn_leaves r (goes_with at_end s) next h h' = h' s
   turn_leaves r (goes_with by_break s) next h h' = h
   turn_leaves r (goes_with by_continue s) next h h' = h' s
   turn_leaves r (goes_with (by_return value) s) next h h' = h
 
-  tested_leaves : (r : Bool) (cond : Option Expr) (body : Doing) (step : Option Expr) → ((s : State) → Yields (LeavesAs true r) (body s)) → (s : State) → Yields (LeavesAs true false) (tested_turn c cond body step s)
+  tested_leaves : (r : Bool) (cond : Option Expr) (body : Doing) (step : Option Expr) → ((s : State) → Yields (LeavesAs true r) (body s)) → (s : State) → Yields (LeavesAs true false) (for_turn c cond body step s)
   tested_leaves r cond body step h s =
       yields_after (λ b. Unit {0}) (LeavesAs true false) (condition_if c cond s) _ (yields_any (λ b. Unit {0}) (λ b. tt) (condition_if c cond s)) (λ b s1 x. by_choice b s1)
     where
-      by_choice : (b : Bool) (s1 : State) → Yields (LeavesAs true false) (choice b (λ s'. after (body s') (then_turn (computes_if c step))) (leaves by_break) s1)
+      by_choice : (b : Bool) (s1 : State) → Yields (LeavesAs true false) (choice b (λ s'. after (body s') (after_body (computes_if c step))) (leaves by_break) s1)
       by_choice true s1 = turn_leaves r (body s1) (computes_if c step) (h s1) (computes_if_leaves true step)
       by_choice false s1 = refl
 
-  testing_leaves : (r : Bool) (body : Doing) (cond : Expr) → ((s : State) → Yields (LeavesAs true r) (body s)) → (s : State) → Yields (LeavesAs true false) (testing_turn c body cond s)
+  testing_leaves : (r : Bool) (body : Doing) (cond : Expr) → ((s : State) → Yields (LeavesAs true r) (body s)) → (s : State) → Yields (LeavesAs true false) (do_turn c body cond s)
   testing_leaves r body cond h s =
       turn_leaves r (body s) _ (h s) (λ s1. yields_after (λ b. Unit {0}) (LeavesAs true false) (condition c cond s1) _ (yields_any (λ b. Unit {0}) (λ b. tt) (condition c cond s1)) (λ b s2 x. by_choice b s2))
     where
@@ -114,7 +114,7 @@ module _ (c : Context) (n : ℕ) (sound : (e : Expr) → IsExpr c.scope e → Ha
       by_choice false s2 = refl
 
   -- a loop behind other statements
-  loop_behind : (in_loop first : Bool) (p : Progress Leaving) (next : Doing) → Yields (LeavesAs in_loop first) p → ((s : State) → Yields (LeavesAs in_loop false) (next s)) → Yields (LeavesAs in_loop false) (after p (then_next next))
+  loop_behind : (in_loop first : Bool) (p : Progress Leaving) (next : Doing) → Yields (LeavesAs in_loop first) p → ((s : State) → Yields (LeavesAs in_loop false) (next s)) → Yields (LeavesAs in_loop false) (after p (after_statement next))
   loop_behind in_loop first (ends_at run) next h h' = tt
   loop_behind in_loop first (goes_with at_end s) next h h' = h' s
   loop_behind in_loop first (goes_with by_break s) next h h' = h
@@ -132,11 +132,11 @@ module _ (c : Context) (n : ℕ) (sound : (e : Expr) → IsExpr c.scope e → Ha
         (λ s'. does_leaves consequent in_loop h.1 s') (λ s'. if_leaves alternative in_loop h.2 s') s1)
     does_leaves (for_stmt init cond step body) in_loop h s =
         loop_behind in_loop (one_returns init) (does_all c n init s) _ (all_leaves init in_loop h.0 s)
-        (turns_leaves in_loop n (tested_turn c cond (λ s'. does c n body s') step) (tested_leaves (always_returns body) cond (λ s'. does c n body s') step (λ s'. does_leaves body true h.3 s')))
+        (turns_leaves in_loop n (for_turn c cond (λ s'. does c n body s') step) (tested_leaves (always_returns body) cond (λ s'. does c n body s') step (λ s'. does_leaves body true h.3 s')))
     does_leaves (while_stmt cond body) in_loop h s =
-        turns_leaves in_loop n (tested_turn c (Some cond) (λ s'. does c n body s') None) (tested_leaves (always_returns body) (Some cond) (λ s'. does c n body s') None (λ s'. does_leaves body true h.1 s')) s
+        turns_leaves in_loop n (for_turn c (Some cond) (λ s'. does c n body s') None) (tested_leaves (always_returns body) (Some cond) (λ s'. does c n body s') None (λ s'. does_leaves body true h.1 s')) s
     does_leaves (do_stmt body cond) in_loop h s =
-        turns_leaves in_loop n (testing_turn c (λ s'. does c n body s') cond) (testing_leaves (always_returns body) (λ s'. does c n body s') cond (λ s'. does_leaves body true h.0 s')) s
+        turns_leaves in_loop n (do_turn c (λ s'. does c n body s') cond) (testing_leaves (always_returns body) (λ s'. does c n body s') cond (λ s'. does_leaves body true h.0 s')) s
     does_leaves break_stmt in_loop h s = h
     does_leaves continue_stmt in_loop h s = h
     does_leaves (return_stmt value) in_loop h s = returns_leaves in_loop value s h

@@ -1,4 +1,4 @@
--- Marks of the variables that are reached early.
+-- Marks of the variables that are used before their declaration.
 use Rattle.std.proofs.Common.{◌≡◌, ◌≢◌, ◌∙◌, refl, ap, sym, ℕ, suc, ◌+◌, ◌-◌, ◌<◌, ◌≤◌, ◌⊎◌, inl, inr, ◌||◌, Bool, false, true, if◌then◌else◌, List, [], ◌∷◌, ◌++◌, add-one, append-nil, append_assoc, arith, drop, get_or, length, set}
 use Rattle.std.specs.Prelude.{◌==◌, cond, not}
 use Rattle.std.proofs.Math.Dec.{eqb-suc-zero}
@@ -9,36 +9,37 @@ use Rattle.std.proofs.lemmas.List.FromFn.{get_or-map-range_with_len, length-map-
 use Rattle.hl_meaning.specs.declared.expression.Expr.{Expr as HeldExpr}
 use Rattle.hl_meaning.specs.Trees.{Form, Stmt, constant_root, element_root, shared_root, variable_root}
 use Rattle.hl_meaning.specs.Views.{plain_expr, plain_form, plain_ty, stmts_of}
-use Rattle.hl_inline.specs.Early.{declared_by, declared_in, early, early_in, is_in, undeclared}
-use Rattle.hl_inline.specs.IndexedVariables.{Mention, call_mention, expr_mentions, form_mentions, place_mention}
-use Rattle.hl_inline.specs.Marking.{counts_of, declarations, mark, mark_all, mark_free, mark_mention, mark_text}
+use Rattle.hl_inline.specs.UsedUndeclared.{declared_by, declared_in, undeclared, used_undeclared, used_undeclared_in}
+use Rattle.hl_meaning.specs.Operators.{is_among}
+use Rattle.hl_inline.specs.Occurrences.{Occurrence, call_occurrence, expr_occurrences, form_occurrences, place_occurrence}
+use Rattle.hl_inline.specs.Marking.{counts_of, declarations, mark, mark_all, mark_free, mark_occurrence, mark_occurrences}
 use Rattle.hl_inline.proofs.GivenForms.{expr-as}
 use Rattle.hl_inline.proofs.Gathering.{drop-next}
 
--- one text after another
+-- occurrences after others
 
-pub mark_text-append : (counts : List ℕ) (xs ys : List Mention) (marks : List Bool) → mark_text counts (xs ++ ys) marks ≡ mark_text counts ys (mark_text counts xs marks)
-mark_text-append counts [] ys marks = refl
-mark_text-append counts (x ∷ xs) ys marks = mark_text-append counts xs ys (mark_mention counts x marks)
+pub mark_occurrences-append : (counts : List ℕ) (xs ys : List Occurrence) (marks : List Bool) → mark_occurrences counts (xs ++ ys) marks ≡ mark_occurrences counts ys (mark_occurrences counts xs marks)
+mark_occurrences-append counts [] ys marks = refl
+mark_occurrences-append counts (x ∷ xs) ys marks = mark_occurrences-append counts xs ys (mark_occurrence counts x marks)
 
-pub text-then : (counts : List ℕ) (xs ys : List Mention) (start between end : List Bool) → between ≡ mark_text counts xs start → end ≡ mark_text counts ys between → end ≡ mark_text counts (xs ++ ys) start
-text-then counts xs ys start between end first second = second ∙ (ap (mark_text counts ys) first ∙ sym (mark_text-append counts xs ys start))
+pub occurrences-then : (counts : List ℕ) (xs ys : List Occurrence) (start between end : List Bool) → between ≡ mark_occurrences counts xs start → end ≡ mark_occurrences counts ys between → end ≡ mark_occurrences counts (xs ++ ys) start
+occurrences-then counts xs ys start between end first second = second ∙ (ap (mark_occurrences counts ys) first ∙ sym (mark_occurrences-append counts xs ys start))
 
 -- an expression of a form
-pub form-text : (counts : List ℕ) (e : HeldExpr) (form : Form) (marks : List Bool) → plain_form e.form ≡ form → mark_text counts (expr_mentions (plain_expr e)) marks ≡ mark_text counts (form_mentions form) marks
-form-text counts e form marks is = ap (λ x. mark_text counts (expr_mentions x) marks) (expr-as e (plain_ty e.ty) form refl is)
+pub form-occurrences : (counts : List ℕ) (e : HeldExpr) (form : Form) (marks : List Bool) → plain_form e.form ≡ form → mark_occurrences counts (expr_occurrences (plain_expr e)) marks ≡ mark_occurrences counts (form_occurrences form) marks
+form-occurrences counts e form marks is = ap (λ x. mark_occurrences counts (expr_occurrences x) marks) (expr-as e (plain_ty e.ty) form refl is)
 
--- the texts of the parts of a list, one after another
-module _ {A : Type 0} (counts : List ℕ) (text : List A → List Mention) (own : A → List Mention) (xs : List A) where
-  pub text-next : (i : ℕ) (x : A) (marks grown whole : List Bool) → i < length xs → x ≡ get_or xs i x → text (x ∷ drop (i + 1) xs) ≡ own x ++ text (drop (i + 1) xs)
-      → grown ≡ mark_text counts (own x) marks → mark_text counts (text (drop i xs)) marks ≡ whole → mark_text counts (text (drop (i + 1) xs)) grown ≡ whole
-  text-next i x marks grown whole within is parts here e =
-      let rest = text (drop (i + 1) xs) in
-      ap (mark_text counts rest) here ∙ (sym (mark_text-append counts (own x) rest marks) ∙ (ap (λ t. mark_text counts t marks) (sym parts) ∙
-      (ap (λ l. mark_text counts (text l) marks) (sym (drop-next xs i x within is)) ∙ e)))
+-- the occurrences in the parts of a list, one after another
+module _ {A : Type 0} (counts : List ℕ) (occurrences : List A → List Occurrence) (own : A → List Occurrence) (xs : List A) where
+  pub occurrences-next : (i : ℕ) (x : A) (marks grown whole : List Bool) → i < length xs → x ≡ get_or xs i x → occurrences (x ∷ drop (i + 1) xs) ≡ own x ++ occurrences (drop (i + 1) xs)
+      → grown ≡ mark_occurrences counts (own x) marks → mark_occurrences counts (occurrences (drop i xs)) marks ≡ whole → mark_occurrences counts (occurrences (drop (i + 1) xs)) grown ≡ whole
+  occurrences-next i x marks grown whole within is parts here e =
+      let rest = occurrences (drop (i + 1) xs) in
+      ap (mark_occurrences counts rest) here ∙ (sym (mark_occurrences-append counts (own x) rest marks) ∙ (ap (λ t. mark_occurrences counts t marks) (sym parts) ∙
+      (ap (λ l. mark_occurrences counts (occurrences l) marks) (sym (drop-next xs i x within is)) ∙ e)))
 
-  pub text-end : (i : ℕ) (marks whole : List Bool) → length xs ≤ i → text [] ≡ [] → mark_text counts (text (drop i xs)) marks ≡ whole → marks ≡ whole
-  text-end i marks whole past none e = ap (λ t. mark_text counts t marks) (sym (ap text (drop_all i xs past) ∙ none)) ∙ e
+  pub occurrences-end : (i : ℕ) (marks whole : List Bool) → length xs ≤ i → occurrences [] ≡ [] → mark_occurrences counts (occurrences (drop i xs)) marks ≡ whole → marks ≡ whole
+  occurrences-end i marks whole past none e = ap (λ t. mark_occurrences counts t marks) (sym (ap occurrences (drop_all i xs past) ∙ none)) ∙ e
 
 pub mark_all-append : (xs ys : List ℕ) (marks : List Bool) → mark_all (xs ++ ys) marks ≡ mark_all ys (mark_all xs marks)
 mark_all-append [] ys marks = refl
@@ -50,12 +51,12 @@ length-mark_all (x ∷ xs) marks = length-mark_all xs (mark x marks) ∙ length-
 
 -- how often variables are declared
 
-or-at : (known : List ℕ) (number : ℕ) → (declarations known number == 0) ≡ not (is_in known number)
+or-at : (known : List ℕ) (number : ℕ) → (declarations known number == 0) ≡ not (is_among known number)
 or-at [] number = refl
 or-at (n ∷ known) number = by_test (number == n) (or-at known number)
   where
-    by_test : (b : Bool) → (declarations known number == 0) ≡ not (is_in known number)
-        → ((if b then suc (declarations known number) else declarations known number) == 0) ≡ not (b || is_in known number)
+    by_test : (b : Bool) → (declarations known number == 0) ≡ not (is_among known number)
+        → ((if b then suc (declarations known number) else declarations known number) == 0) ≡ not (b || is_among known number)
     by_test true e = eqb-suc-zero (declarations known number)
     by_test false e = e
 
@@ -73,33 +74,33 @@ counts-same size counts known long each =
 
 -- a free variable is marked, and one that isn't there leaves no mark
 free-marked : (size : ℕ) (known : List ℕ) (number : ℕ) (marks : List Bool) → length marks ≡ size
-    → mark_free (counts_of size known) number marks ≡ (if not (is_in known number) then mark number marks else marks)
+    → mark_free (counts_of size known) number marks ≡ (if not (is_among known number) then mark number marks else marks)
 free-marked size known number marks long = by_place (cases_lt number size)
   where
-    by_place : (number < size) ⊎ (size ≤ number) → mark_free (counts_of size known) number marks ≡ (if not (is_in known number) then mark number marks else marks)
+    by_place : (number < size) ⊎ (size ≤ number) → mark_free (counts_of size known) number marks ≡ (if not (is_among known number) then mark number marks else marks)
     by_place (inl within) = ap (λ n. if n == 0 then mark number marks else marks) (count-at size known number 1 within) ∙ ap (λ b. if b then mark number marks else marks) (or-at known number)
     by_place (inr past) =
         ap (λ n. if n == 0 then mark number marks else marks) (get_or_past (counts_of size known) number 1 (omega (arith, length-counts size known, past))) ∙
-        unmarked (not (is_in known number)) (set_past marks number true (omega (arith, long, past)))
+        unmarked (not (is_among known number)) (set_past marks number true (omega (arith, long, past)))
       where
         unmarked : (b : Bool) → mark number marks ≡ marks → marks ≡ (if b then mark number marks else marks)
         unmarked true e = sym e
         unmarked false e = refl
 
--- a text marks its variables that aren't declared
-pub text-marked : (size : ℕ) (known : List ℕ) (text : List Mention) (marks : List Bool) → length marks ≡ size → mark_text (counts_of size known) text marks ≡ mark_all (undeclared known text) marks
-text-marked size known [] marks long = refl
-text-marked size known (call_mention function ∷ text) marks long = text-marked size known text marks long
-text-marked size known (place_mention (constant_root number) parts ∷ text) marks long = text-marked size known text marks long
-text-marked size known (place_mention (shared_root number) parts ∷ text) marks long = text-marked size known text marks long
-text-marked size known (place_mention (element_root resource index) parts ∷ text) marks long = text-marked size known text marks long
-text-marked size known (place_mention (variable_root number) parts ∷ text) marks long =
-    ap (mark_text (counts_of size known) text) (free-marked size known number marks long) ∙
-    by_test (not (is_in known number)) (text-marked size known text marks long) (text-marked size known text (mark number marks) (length-set marks number true ∙ long))
+-- occurrences mark their variables that aren't declared
+pub occurrences-marked : (size : ℕ) (known : List ℕ) (occurrences : List Occurrence) (marks : List Bool) → length marks ≡ size → mark_occurrences (counts_of size known) occurrences marks ≡ mark_all (undeclared known occurrences) marks
+occurrences-marked size known [] marks long = refl
+occurrences-marked size known (call_occurrence function ∷ occurrences) marks long = occurrences-marked size known occurrences marks long
+occurrences-marked size known (place_occurrence (constant_root number) parts ∷ occurrences) marks long = occurrences-marked size known occurrences marks long
+occurrences-marked size known (place_occurrence (shared_root number) parts ∷ occurrences) marks long = occurrences-marked size known occurrences marks long
+occurrences-marked size known (place_occurrence (element_root resource index) parts ∷ occurrences) marks long = occurrences-marked size known occurrences marks long
+occurrences-marked size known (place_occurrence (variable_root number) parts ∷ occurrences) marks long =
+    ap (mark_occurrences (counts_of size known) occurrences) (free-marked size known number marks long) ∙
+    by_test (not (is_among known number)) (occurrences-marked size known occurrences marks long) (occurrences-marked size known occurrences (mark number marks) (length-set marks number true ∙ long))
   where
-    by_test : (b : Bool) → mark_text (counts_of size known) text marks ≡ mark_all (undeclared known text) marks
-        → mark_text (counts_of size known) text (mark number marks) ≡ mark_all (undeclared known text) (mark number marks)
-        → mark_text (counts_of size known) text (if b then mark number marks else marks) ≡ mark_all (cond b (number ∷ undeclared known text) (undeclared known text)) marks
+    by_test : (b : Bool) → mark_occurrences (counts_of size known) occurrences marks ≡ mark_all (undeclared known occurrences) marks
+        → mark_occurrences (counts_of size known) occurrences (mark number marks) ≡ mark_all (undeclared known occurrences) (mark number marks)
+        → mark_occurrences (counts_of size known) occurrences (if b then mark number marks else marks) ≡ mark_all (cond b (number ∷ undeclared known occurrences) (undeclared known occurrences)) marks
     by_test true without here = here
     by_test false without here = without
 
@@ -172,11 +173,11 @@ declared-some size counts known number is within =
 
 -- statements one after another
 
-pub early_in-more : (known : List ℕ) (xs : List Stmt) (x : Stmt) → early_in known (stmts_of (xs ++ x ∷ [])) ≡ early_in known (stmts_of xs) ++ early (declared_in known (stmts_of xs)) x
-early_in-more known [] x = append-nil (early known x)
-early_in-more known (y ∷ xs) x =
-    ap (λ l. early known y ++ l) (early_in-more (declared_by known y) xs x) ∙
-    sym (append_assoc (early known y) (early_in (declared_by known y) (stmts_of xs)) (early (declared_in (declared_by known y) (stmts_of xs)) x))
+pub used_undeclared_in-more : (known : List ℕ) (xs : List Stmt) (x : Stmt) → used_undeclared_in known (stmts_of (xs ++ x ∷ [])) ≡ used_undeclared_in known (stmts_of xs) ++ used_undeclared (declared_in known (stmts_of xs)) x
+used_undeclared_in-more known [] x = append-nil (used_undeclared known x)
+used_undeclared_in-more known (y ∷ xs) x =
+    ap (λ l. used_undeclared known y ++ l) (used_undeclared_in-more (declared_by known y) xs x) ∙
+    sym (append_assoc (used_undeclared known y) (used_undeclared_in (declared_by known y) (stmts_of xs)) (used_undeclared (declared_in (declared_by known y) (stmts_of xs)) x))
 
 pub declared_in-more : (known : List ℕ) (xs : List Stmt) (x : Stmt) → declared_in known (stmts_of (xs ++ x ∷ [])) ≡ declared_by (declared_in known (stmts_of xs)) x
 declared_in-more known [] x = refl

@@ -10,8 +10,11 @@ use Rattle.hl_source.specs.State.{Context, State, after}
 use Rattle.hl_source.specs.Expressions.{acts, evaluates}
 use Rattle.hl_inline.specs.FlatTrees.{Flat}
 use Rattle.hl_inline.specs.FlatLane.{flat_context}
-use Rattle.hl_inline.specs.Operands.{filled, operand_exprs}
-use Rattle.hl_inline.specs.Flattening.{Emitter, Fresh, Instance, Values, emit_all, is_literal_form, next_of, node, over}
+use Rattle.hl_inline.proofs.OperandExpressions.{operand_exprs}
+use Rattle.hl_inline.specs.Operands.{filled}
+use Rattle.hl_inline.specs.EmittedExpressions.{is_literal_form, node, over}
+use Rattle.hl_inline.specs.Emitting.{Emitter, Values, emit_all}
+use Rattle.hl_inline.specs.Fresh.{Fresh, Instance, next_of}
 use Rattle.hl_inline.proofs.Induction.{Every}
 use Rattle.hl_inline.proofs.ProgressLemmas.{after_cong, after_giving}
 use Rattle.hl_inline.proofs.OperandLemmas.{evaluate_all, grouped, is_call_form, operands_all}

@@ -6,7 +6,7 @@ use Rattle.hl_inline.specs.declared.flat.FlatStmt.TheVariants.{Block}
 use Rattle.hl_inline.specs.Building.{plain_code}
 use Rattle.hl_inline.specs.FlatTrees.{no_flat_stmt, some_flat_stmt}
 use Rattle.hl_inline.specs.FlatViews.{plain_flat_stmt}
-use Rattle.hl_inline.specs.Flattening.{as_alternative, as_one}
+use Rattle.hl_inline.specs.EmittedCode.{as_alternative, as_one}
 use Rattle.hl_inline.proofs.FlatPlain.{plain_flat_stmt-Block}
 
 pub one-block : (stmts : List FlatStmt) → length stmts ≢ 1 → plain_flat_stmt (Block stmts) ≡ as_one (plain_code stmts)

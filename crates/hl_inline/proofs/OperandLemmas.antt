@@ -8,8 +8,12 @@ use Rattle.hl_meaning.specs.Types.{Ty}
 use Rattle.hl_meaning.specs.Trees.{Expr, Exprs, Form, Location, MaybeExpr, MaybeLocation, PathParts, Root, Target, a_location, atomic_form, binary_form, build_form, bytes_target, call_form, choose_form, constant_root, convert_form, element_root, index_part, intrinsic_form, literal_form, member_part, method_form, more_exprs, more_parts, no_expr, no_exprs, no_location, no_parts, pick_form, place_target, read_form, shared_root, some_expr, some_location, swizzle_part, unary_form, variable_root, write_form, Args, more_args, no_args, place_arg, value_arg}
 use Rattle.hl_source.specs.State.{Context, Progress, State, after, alone, each, first_then, goes_with, joined}
 use Rattle.hl_source.specs.Expressions.{evaluates, indexes, indexes_if, operands, root_index, step_indexes, target_indexes, value_if, values, values_if}
-use Rattle.hl_inline.specs.Operands.{expr_if_list, exprs_list, operand_exprs, parts_exprs, place_exprs, place_if_exprs, root_exprs, target_exprs}
-use Rattle.hl_inline.specs.Flattening.{Inlined, Instance, emitter, expr_if_emitters, exprs_emitters, form_emitter, node, parts_emitters, place_emitters, place_if_emitters, target_emitters, Argument, Emitter, args_emitters, place_argument, value_argument}
+use Rattle.hl_inline.proofs.OperandExpressions.{expr_if_list, exprs_list, operand_exprs, place_if_exprs}
+use Rattle.hl_inline.specs.Operands.{parts_exprs, place_exprs, root_exprs, target_exprs}
+use Rattle.hl_inline.specs.EmittedExpressions.{args_emitters, emitter, expr_if_emitters, exprs_emitters, form_emitter, node, parts_emitters, place_emitters, place_if_emitters, target_emitters}
+use Rattle.hl_inline.specs.Emitting.{Emitter}
+use Rattle.hl_inline.specs.Fresh.{Instance}
+use Rattle.hl_inline.specs.InlinedCalls.{Argument, Inlined, place_argument, value_argument}
 use Rattle.hl_inline.proofs.ProgressLemmas.{after_assoc, after_cong, after_giving, concat_append, concat_one, each_append, giving, giving_after, giving_cong, giving_giving, giving_same}
 
 abbrev pub is_call_form : Form → Bool

@@ -16,11 +16,13 @@ use Rattle.hl_meaning.specs.WellFormed.{most_words}
 use Rattle.hl_source.specs.Operations.{map_2, word_as}
 use Rattle.hl_source.specs.State.{Context, Progress, State, after, alone, ends_at, first_then, goes_with, variable_words, with_variable}
 use Rattle.hl_source.specs.Memory.{read_place, write_place}
-use Rattle.hl_source.specs.Expressions.{acts, arguments, copies_out, evaluates, indexes, starts, starts_with, value_of_words}
+use Rattle.hl_source.specs.Expressions.{acts, arguments, copies_in, copies_out, evaluates, indexes, initial_parameters, value_of_words}
 use Rattle.hl_inline.specs.FlatTrees.{Flat, FlatStmt, flat_local, flat_run}
 use Rattle.hl_inline.specs.FlatLane.{FlatLeaving, flat_context, flat_done, flat_end, then_flat}
 use Rattle.hl_inline.specs.Operands.{filled_place, place_exprs}
-use Rattle.hl_inline.specs.Flattening.{Emitter, Fresh, Instance, Passed, Valued, Values, copy_back, emit_all, next_of, pass_all, reading, start_value}
+use Rattle.hl_inline.specs.Emitting.{Emitter, Valued, Values, emit_all, reading}
+use Rattle.hl_inline.specs.Fresh.{Fresh, Instance, next_of}
+use Rattle.hl_inline.specs.InlinedCalls.{Passed, copy_back, pass_all, start_value}
 use Rattle.hl_inline.proofs.Induction.{Every}
 use Rattle.hl_inline.proofs.ProgressLemmas.{after_assoc, after_cong, after_giving, giving}
 use Rattle.hl_inline.proofs.OperandLemmas.{evaluate_all, indexes_all, args_by}
@@ -106,8 +108,8 @@ module _ (c : Context) (V : List Variable) (first : ℕ) (stands : Stands c V fi
   pub record PassedAs (from below number : ℕ) (args : Args) (parameters : List Parameter) (copies : List FlatStmt) (t : State) (operands : List (List ℕ)) (s1 t1 : State) : Type 0 where
     pub related : Related c V first D s1 t1
     pub keeps : KeepsApart first (length c.scope.variables) number (length parameters) from t t1
-    pub held : HeldAs t1 number parameters (starts operands)
-    pub exact : length (starts operands) ≡ length parameters
+    pub held : HeldAs t1 number parameters (initial_parameters operands)
+    pub exact : length (initial_parameters operands) ≡ length parameters
     pub copy : CopiesAs from below number args parameters copies operands t1
 
   -- statements of one variable or value
@@ -187,7 +189,7 @@ module _ (c : Context) (V : List Variable) (first : ℕ) (stands : Stands c V fi
   starting : (copying : Copying) (place : Location) (es : List Expr) (at below number : ℕ) (ws : List (List ℕ)) → PlaceIn c D place → HasPlaceValue c place → first + length c.scope.variables ≤ number →
       variable_type V number ≡ Some (place_type place) → (s t : State) → Related c V first D s t →
       evaluate_all (flat_of_context c V) (place_exprs (filled_place first place es)) t ≡ goes_with ws t →
-      Runs (StartedAs below number t) (starts_with c copying place (concat ws) s) (perform f lane n (flat_local number (start_value copying (filled_place first place es) at) ∷ []) t)
+      Runs (StartedAs below number t) (copies_in c copying place (concat ws) s) (perform f lane n (flat_local number (start_value copying (filled_place first place es) at) ∷ []) t)
   starting CopyIn place es at below number ws inside value high typed s t r e = starts_read place es at below number ws inside value high typed s t r e
   starting CopyBoth place es at below number ws inside value high typed s t r e = starts_read place es at below number ws inside value high typed s t r e
   starting CopyOut place es at below number ws inside value high typed s t r e = (
@@ -307,19 +309,19 @@ module _ (c : Context) (V : List Variable) (first : ℕ) (stands : Stands c V fi
 
   -- a place's indexes, and what its parameter starts with
   abbrev pub place_start : (place : Location) (copying : Copying) (s : State) → Progress (List (List ℕ) × List ℕ)
-  place_start place copying s = after (evaluate_all c (place_exprs place) s) (λ ws s1. giving (λ start. (ws, start)) (starts_with c copying place (concat ws) s1))
+  place_start place copying s = after (evaluate_all c (place_exprs place) s) (λ ws s1. giving (λ start. (ws, start)) (copies_in c copying place (concat ws) s1))
 
   place_operands : (place : Location) (rest : Args) (p : Parameter) (parameters : List Parameter) (s : State) →
       arguments c (more_args (place_arg place) rest) (p ∷ parameters) s ≡
       after (place_start place p.copying s) (λ x s1. giving (λ more. concat x.0 ∷ x.1 ∷ more) (arguments c rest parameters s1))
   place_operands place rest p parameters s =
-      ap (λ q. after (after q (λ at s1. after (starts_with c p.copying place at s1) (λ start s2. goes_with (at ∷ start ∷ []) s2))) (λ some s1. giving (λ more. some ++ more) (arguments c rest parameters s1)))
+      ap (λ q. after (after q (λ at s1. after (copies_in c p.copying place at s1) (λ start s2. goes_with (at ∷ start ∷ []) s2))) (λ some s1. giving (λ more. some ++ more) (arguments c rest parameters s1)))
       (indexes_all c place s) ∙
       (ap (λ q. after q (λ some s1. giving (λ more. some ++ more) (arguments c rest parameters s1))) (after_giving concat (evaluate_all c (place_exprs place) s) _) ∙
       (after_assoc (evaluate_all c (place_exprs place) s) _ _ ∙
       (after_cong (evaluate_all c (place_exprs place) s) _ _ (λ ws s1.
-      after_giving (λ start. concat ws ∷ start ∷ []) (starts_with c p.copying place (concat ws) s1) _ ∙
-      sym (after_giving (λ start. (ws, start)) (starts_with c p.copying place (concat ws) s1) _)) ∙
+      after_giving (λ start. concat ws ∷ start ∷ []) (copies_in c p.copying place (concat ws) s1) _ ∙
+      sym (after_giving (λ start. (ws, start)) (copies_in c p.copying place (concat ws) s1) _)) ∙
       sym (after_assoc (evaluate_all c (place_exprs place) s) _ _))))
 
   -- behind the indexes of a place and the start of its parameter: the state between both, and what holds there and then
@@ -399,7 +401,7 @@ module _ (c : Context) (V : List Variable) (first : ℕ) (stands : Stands c V fi
           (all_close c V first stands f lane n known D em (place_exprs place) ready.0.2 ready.0.3 fresh
           (omega (arith, high, room), front_trans (emit_all true (map em (place_exprs place)) fresh).fresh.variables _ V grown front) s t r)
           (λ ws s1 t1 stays.
-          runs_giving _ (BothAs (next_of fresh) (next_of (emit_all true (map em (place_exprs place)) fresh).fresh) number (emit_all true (map em (place_exprs place)) fresh).values t) (λ start. (ws, start)) (starts_with c p.copying place (concat ws) s1) _
+          runs_giving _ (BothAs (next_of fresh) (next_of (emit_all true (map em (place_exprs place)) fresh).fresh) number (emit_all true (map em (place_exprs place)) fresh).values t) (λ start. (ws, start)) (copies_in c p.copying place (concat ws) s1) _
           (starting p.copying place (emit_all true (map em (place_exprs place)) fresh).values at (next_of (emit_all true (map em (place_exprs place)) fresh).fresh) number ws ready.0.0 ready.0.4 high typed.0 s1 t1 stays.0.0
           (ap (λ l. evaluate_all (flat_of_context c V) l t1) (filled_operands first (read_form place) (emit_all true (map em (place_exprs place)) fresh).values refl counted) ∙ stays.1 t1 (λ w above lower. refl)))
           (λ start s2 t2 started. (s1, t1, stays, started)))

@@ -15,7 +15,7 @@ use Rattle.hl_meaning.specs.WellFormed.{most_words}
 use Rattle.hl_meaning.proofs.LayoutLemmas.{words-scalar}
 use Rattle.lane_core.specs.Words.{wrapping_add, wrapping_mul}
 use Rattle.hl_source.specs.Operations.{component_kind}
-use Rattle.hl_source.specs.Offsets.{Reached, at_index, at_member, at_swizzle, element_of, further, literal_indexes, literal_word, member_of, reached}
+use Rattle.hl_source.specs.Offsets.{Reached, element_of, further, literal_indexes, literal_word, member_of, reached, step_to_element, step_to_letters, step_to_member}
 use Rattle.hl_inline.proofs.KindParts.{AreStructs, PartOf, kinds-scalar, kinds-vector, part_component, part_element, part_further, part_member, part_within, replicate_at}
 use Rattle.hl_inline.proofs.Typed.{and_left, and_right, never}
 
@@ -71,7 +71,7 @@ pub record StepAs (structs : List StructDef) (from : Reached) (t : Ty) (at : Rea
   pub type : at.ty ≡ t
 
 member_step : (structs : List StructDef) (from : Reached) (ty : Ty) (number : ℕ) (t : Ty) → from.ty ≡ ty → from.letters ≡ [] → part_type structs ty (member_part number) ≡ Some t →
-    StepAs structs from t (at_member from (member_of structs from.ty number))
+    StepAs structs from t (step_to_member from (member_of structs from.ty number))
 member_step structs from void_type number t is plain e = absurd (none-some t e)
 member_step structs from (scalar_type kind) number t is plain e = absurd (none-some t e)
 member_step structs from (vector_type kind size) number t is plain e = absurd (none-some t e)
@@ -80,10 +80,10 @@ member_step structs from (struct_type struct) number t is plain e =
     let found = member_found structs struct number t e in
     let member_is : member_of structs from.ty number ≡ Some found.1 =
     ap (λ x. member_of structs x number) is ∙ (ap (λ o. option_and_then (λ d. slice_get d.members number) o) found.2 ∙ found.3) in
-    subst (λ o. StepAs structs from t (at_member from o)) (sym member_is) (record { letters = refl; type = found.4 })
+    subst (λ o. StepAs structs from t (step_to_member from o)) (sym member_is) (record { letters = refl; type = found.4 })
 
 index_step : (structs : List StructDef) (from : Reached) (ty : Ty) (index : Expr) (word : ℕ) (t : Ty) → from.ty ≡ ty → part_type structs ty (index_part index) ≡ Some t →
-    StepAs structs from t (at_index structs from word)
+    StepAs structs from t (step_to_element structs from word)
 index_step structs from void_type index word t is e = absurd (none-some t e)
 index_step structs from (scalar_type kind) index word t is e = absurd (none-some t e)
 index_step structs from (vector_type kind size) index word t is e =
@@ -137,11 +137,11 @@ reached_as structs from no_parts ixs ty to is plain e = inl (plain, is ∙ same_
 reached_as structs from (more_parts (member_part number) rest) ixs ty to is plain e =
     let on = path_on structs ty (member_part number) rest to e in
     let step = member_step structs from ty number on.1 is plain on.2 in
-    reached_as structs (at_member from (member_of structs from.ty number)) rest ixs on.1 to step.type step.letters on.3
+    reached_as structs (step_to_member from (member_of structs from.ty number)) rest ixs on.1 to step.type step.letters on.3
 reached_as structs from (more_parts (index_part index) rest) ixs ty to is plain e =
     let on = path_on structs ty (index_part index) rest to e in
     let step = index_step structs from ty index (slice_index ixs 0) on.1 is on.2 in
-    reached_as structs (at_index structs from (slice_index ixs 0)) rest (drop 1 ixs) on.1 to step.type step.letters on.3
+    reached_as structs (step_to_element structs from (slice_index ixs 0)) rest (drop 1 ixs) on.1 to step.type step.letters on.3
 reached_as structs from (more_parts (swizzle_part []) rest) ixs ty to is plain e =
     let on = path_on structs ty (swizzle_part []) rest to e in never ((swizzle_step structs from ty [] on.1 is on.2).some)
 reached_as structs from (more_parts (swizzle_part (letter ∷ [])) rest) ixs ty to is plain e =
@@ -154,7 +154,7 @@ reached_as structs from (more_parts (swizzle_part (letter ∷ other ∷ letters)
     let end : rest ≡ no_parts = nothing_behind rest _ (lt-ltb 1 (length (letter ∷ other ∷ letters)) longer) on.0 in
     let step = swizzle_step structs from ty (letter ∷ other ∷ letters) on.1 is on.2 in
     let ends : Some on.1 ≡ Some to = subst (λ r. path_type structs on.1 r ≡ Some to) end on.3 in
-    subst (λ r. ReachedAs structs (reached structs (at_swizzle from (letter ∷ other ∷ letters)) r ixs) to) (sym end)
+    subst (λ r. ReachedAs structs (reached structs (step_to_letters from (letter ∷ other ∷ letters)) r ixs) to) (sym end)
     (inr (record { kind = step.kind; size = step.size; kinds = step.kinds; low = step.low; is = sym (step.is ∙ same_Some on.1 to ends); longer = longer }))
 
 -- Where the indexes are literals, what steps reach is a part of where they begin.
@@ -184,7 +184,7 @@ part_letter structs ty size letter kind is low =
 
 member_part_at : (structs : List StructDef) → AreStructs structs → (whole : Ty) → words_of structs whole ≤ most_words → (from : Reached) (ty : Ty) (number : ℕ) (t : Ty) → from.ty ≡ ty →
     part_type structs ty (member_part number) ≡ Some t → PartOf structs whole from.offset from.ty →
-    PartOf structs whole (at_member from (member_of structs from.ty number)).offset (at_member from (member_of structs from.ty number)).ty
+    PartOf structs whole (step_to_member from (member_of structs from.ty number)).offset (step_to_member from (member_of structs from.ty number)).ty
 member_part_at structs are whole small from void_type number t is e p = absurd (none-some t e)
 member_part_at structs are whole small from (scalar_type kind) number t is e p = absurd (none-some t e)
 member_part_at structs are whole small from (vector_type kind size) number t is e p = absurd (none-some t e)
@@ -193,12 +193,12 @@ member_part_at structs are whole small from (struct_type struct) number t is e p
     let found = member_found structs struct number t e in
     let member_is : member_of structs from.ty number ≡ Some found.1 =
     ap (λ x. member_of structs x number) is ∙ (ap (λ o. option_and_then (λ d. slice_get d.members number) o) found.2 ∙ found.3) in
-    subst (λ o. PartOf structs whole (at_member from o).offset (at_member from o).ty) (sym member_is)
+    subst (λ o. PartOf structs whole (step_to_member from o).offset (step_to_member from o).ty) (sym member_is)
     (part_next structs whole small from found.1.ty found.1.offset p
     (subst (λ x. PartOf structs x found.1.offset found.1.ty) (sym is) (part_member structs are struct number found.0 found.1 found.2 found.3)))
 
 element_at : (structs : List StructDef) (whole : Ty) → words_of structs whole ≤ most_words → (from : Reached) (element : Ty) (index : ℕ) → element_of from.ty ≡ element → PartOf structs whole from.offset from.ty →
-    PartOf structs from.ty (index * words_of structs element) element → PartOf structs whole (at_index structs from index).offset (at_index structs from index).ty
+    PartOf structs from.ty (index * words_of structs element) element → PartOf structs whole (step_to_element structs from index).offset (step_to_element structs from index).ty
 element_at structs whole small from element index is p q =
     subst (λ x. PartOf structs whole (wrapping_add from.offset (wrapping_mul index (words_of structs x))) x) (sym is)
     (subst (λ n. PartOf structs whole (wrapping_add from.offset n) element)
@@ -207,7 +207,7 @@ element_at structs whole small from element index is p q =
 
 index_part_at : (structs : List StructDef) (whole : Ty) → words_of structs whole ≤ most_words → (from : Reached) (ty : Ty) (index : Expr) (t : Ty) → from.ty ≡ ty → part_type structs ty (index_part index) ≡ Some t →
     IsTrue (is_literal index) → PartOf structs whole from.offset from.ty →
-    PartOf structs whole (at_index structs from (literal_word index)).offset (at_index structs from (literal_word index)).ty
+    PartOf structs whole (step_to_element structs from (literal_word index)).offset (step_to_element structs from (literal_word index)).ty
 index_part_at structs whole small from void_type index t is e literal p = absurd (none-some t e)
 index_part_at structs whole small from (scalar_type kind) index t is e literal p = absurd (none-some t e)
 index_part_at structs whole small from (struct_type number) index t is e literal p = absurd (none-some t e)
@@ -228,11 +228,11 @@ pick_part structs are whole small from no_parts ty to is plain e literal p = p
 pick_part structs are whole small from (more_parts (member_part number) rest) ty to is plain e literal p =
     let on = path_on structs ty (member_part number) rest to e in
     let step = member_step structs from ty number on.1 is plain on.2 in
-    pick_part structs are whole small (at_member from (member_of structs from.ty number)) rest on.1 to step.type step.letters on.3 literal (member_part_at structs are whole small from ty number on.1 is on.2 p)
+    pick_part structs are whole small (step_to_member from (member_of structs from.ty number)) rest on.1 to step.type step.letters on.3 literal (member_part_at structs are whole small from ty number on.1 is on.2 p)
 pick_part structs are whole small from (more_parts (index_part index) rest) ty to is plain e literal p =
     let on = path_on structs ty (index_part index) rest to e in
     let step = index_step structs from ty index (literal_word index) on.1 is on.2 in
-    pick_part structs are whole small (at_index structs from (literal_word index)) rest on.1 to step.type step.letters on.3 (and_right (is_literal index) (has_literal_indexes rest) literal)
+    pick_part structs are whole small (step_to_element structs from (literal_word index)) rest on.1 to step.type step.letters on.3 (and_right (is_literal index) (has_literal_indexes rest) literal)
     (index_part_at structs whole small from ty index on.1 is on.2 (and_left (is_literal index) (has_literal_indexes rest) literal) p)
 pick_part structs are whole small from (more_parts (swizzle_part []) rest) ty to is plain e literal p =
     let on = path_on structs ty (swizzle_part []) rest to e in never ((swizzle_step structs from ty [] on.1 is on.2).some)
@@ -247,4 +247,4 @@ pick_part structs are whole small from (more_parts (swizzle_part (letter ∷ oth
     let on = path_on structs ty (swizzle_part (letter ∷ other ∷ letters)) rest to e in
     let longer : 1 < length (letter ∷ other ∷ letters) = omega arith in
     let end : rest ≡ no_parts = nothing_behind rest _ (lt-ltb 1 (length (letter ∷ other ∷ letters)) longer) on.0 in
-    subst (λ r. PartOf structs whole (reached structs (at_swizzle from (letter ∷ other ∷ letters)) r (literal_indexes rest)).offset (reached structs (at_swizzle from (letter ∷ other ∷ letters)) r (literal_indexes rest)).ty) (sym end) p
+    subst (λ r. PartOf structs whole (reached structs (step_to_letters from (letter ∷ other ∷ letters)) r (literal_indexes rest)).offset (reached structs (step_to_letters from (letter ∷ other ∷ letters)) r (literal_indexes rest)).ty) (sym end) p

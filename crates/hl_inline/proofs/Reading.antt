@@ -19,7 +19,7 @@ use Rattle.hl_meaning.specs.Programs.{StructDef, Variable}
 use Rattle.hl_meaning.specs.Layout.{words_of}
 use Rattle.lane_core.specs.Words.{wrapping_add}
 use Rattle.hl_source.specs.State.{Context, Progress, State, after, asks, asks_word, each, ends_at, faults, gives, goes_with, reply_word, reply_words, variable_words, with_variable}
-use Rattle.hl_source.specs.Offsets.{Holder, Place, Reached, at_index, at_member, at_swizzle, holder_of, in_constant, in_element, in_shared, in_variable, member_of, place_of, reached, start_of, indexes_of_steps, type_of_root}
+use Rattle.hl_source.specs.Offsets.{Holder, Place, Reached, step_to_element, step_to_member, step_to_letters, holder_of, in_constant, in_element, in_shared, in_variable, member_of, place_of, reached, start_of, indexes_of_steps, type_of_root}
 use Rattle.hl_source.specs.Memory.{atomic_word, byte_offset, constant_words, load_four, load_words, pieces, read_place, read_reached, read_words, shared_size, store_four, store_words, within, word_of, word_offsets, write_letters, write_place, write_variable_word, write_words}
 use Rattle.hl_inline.specs.Operands.{filled_parts, filled_place, filled_root, behind_root}
 use Rattle.hl_inline.proofs.Relation.{Alike, KeepsAll, Related, Stands, alike_after, alike_each, alike_goes, flat_of_context, keeps_all_trans, outside_set, related_set}
@@ -214,9 +214,9 @@ changed_in c (element_root resource index) ixs _ = tt
 
 reached_filled : (structs : List StructDef) (from : Reached) (parts : PathParts) (es : List Expr) (ixs : List ℕ) → reached structs from (filled_parts parts es) ixs ≡ reached structs from parts ixs
 reached_filled structs from no_parts es ixs = refl
-reached_filled structs from (more_parts (member_part number) rest) es ixs = reached_filled structs (at_member from (member_of structs from.ty number)) rest es ixs
-reached_filled structs from (more_parts (index_part index) rest) es ixs = reached_filled structs (at_index structs from (slice_index ixs 0)) rest (drop 1 es) (drop 1 ixs)
-reached_filled structs from (more_parts (swizzle_part letters) rest) es ixs = reached_filled structs (at_swizzle from letters) rest es ixs
+reached_filled structs from (more_parts (member_part number) rest) es ixs = reached_filled structs (step_to_member from (member_of structs from.ty number)) rest es ixs
+reached_filled structs from (more_parts (index_part index) rest) es ixs = reached_filled structs (step_to_element structs from (slice_index ixs 0)) rest (drop 1 es) (drop 1 ixs)
+reached_filled structs from (more_parts (swizzle_part letters) rest) es ixs = reached_filled structs (step_to_letters from letters) rest es ixs
 
 root_typed : (c : Context) (V : List Variable) (first : ℕ) → Stands c V first → (root : Root) (es : List Expr) (t : Ty) → root_type c.scope root ≡ Some t →
     root_type (flat_of_context c V).scope (filled_root first root es) ≡ Some t
@@ -227,13 +227,13 @@ root_typed c V first stands (element_root resource index) es t e = e
 
 -- where a place stands in a program without calls
 abbrev pub moved_place : (first : ℕ) → Place → Place
-moved_place first place = record { holder = moved first place.holder; at = place.at }
+moved_place first place = record { holder = moved first place.holder; reached = place.reached }
 
 place_moved : (c : Context) (V : List Variable) (first : ℕ) (D : ℕ → Type 0) → Stands c V first → (place : Location) (es : List Expr) (ixs : List ℕ) → PlaceIn c D place →
     place_of (flat_of_context c V) (filled_place first place es) ixs ≡ moved_place first (place_of c place ixs)
 place_moved c V first D stands (a_location ty root parts) es ixs r =
-    ap (λ h. record { holder = h; at = reached c.scope.structs (start_of (type_of_root (flat_of_context c V) (filled_root first root es))) (filled_parts parts (behind_root root es)) (indexes_of_steps (filled_root first root es) ixs) }) (holder_is root) ∙
-    (ap (λ at. record { holder = moved first (holder_of c root ixs); at = at }) (ap (λ o. reached c.scope.structs (start_of (unwrap_or o void_type)) (filled_parts parts (behind_root root es)) (indexes_of_steps (filled_root first root es) ixs)) (root_typed c V first stands root es r.0 r.1 ∙ sym r.1) ∙
+    ap (λ h. record { holder = h; reached = reached c.scope.structs (start_of (type_of_root (flat_of_context c V) (filled_root first root es))) (filled_parts parts (behind_root root es)) (indexes_of_steps (filled_root first root es) ixs) }) (holder_is root) ∙
+    (ap (λ at. record { holder = moved first (holder_of c root ixs); reached = at }) (ap (λ o. reached c.scope.structs (start_of (unwrap_or o void_type)) (filled_parts parts (behind_root root es)) (indexes_of_steps (filled_root first root es) ixs)) (root_typed c V first stands root es r.0 r.1 ∙ sym r.1) ∙
     (ap (λ x. reached c.scope.structs (start_of (type_of_root c root)) (filled_parts parts (behind_root root es)) x) (steps_are root) ∙
     reached_filled c.scope.structs (start_of (type_of_root c root)) parts (behind_root root es) (indexes_of_steps root ixs))))
   where
@@ -253,10 +253,10 @@ module _ (c : Context) (V : List Variable) (first : ℕ) (D : ℕ → Type 0) (u
   pub alike_read_place : (place : Location) (es : List Expr) (ixs : List ℕ) → PlaceIn c D place → (s t : State) → Acting c V first D u s t →
       Alike (Acting c V first D u) (read_place c place ixs s) (read_place (flat_of_context c V) (filled_place first place es) ixs t)
   alike_read_place (a_location ty root parts) es ixs there s t r =
-      subst (λ p. Alike (Acting c V first D u) (read_place c (a_location ty root parts) ixs s) (read_reached (flat_of_context c V) p.holder p.at t)) (sym (place_moved c V first D stands (a_location ty root parts) es ixs there))
+      subst (λ p. Alike (Acting c V first D u) (read_place c (a_location ty root parts) ixs s) (read_reached (flat_of_context c V) p.holder p.reached t)) (sym (place_moved c V first D stands (a_location ty root parts) es ixs there))
       (alike_then (Acting c V first D u) (acting_follows c V first D u) _ _ _
-      (alike_read_words c V first D u stands (holder_of c root ixs) (holder_in c D root ixs there) (place_of c (a_location ty root parts) ixs).at.offset
-      (words_of c.scope.structs (place_of c (a_location ty root parts) ixs).at.ty) s t r))
+      (alike_read_words c V first D u stands (holder_of c root ixs) (holder_in c D root ixs there) (place_of c (a_location ty root parts) ixs).reached.offset
+      (words_of c.scope.structs (place_of c (a_location ty root parts) ixs).reached.ty) s t r))
 
   alike_write_letters : (holder : Holder) → HolderIn c D holder → IsChanged holder → (offset : ℕ) (letters ws : List ℕ) (s t : State) → Acting c V first D u s t →
       Alike (Acting c V first D u) (write_letters c holder offset letters ws s) (write_letters (flat_of_context c V) (moved first holder) offset letters ws t)
@@ -268,9 +268,9 @@ module _ (c : Context) (V : List Variable) (first : ℕ) (D : ℕ → Type 0) (u
   pub alike_write_place : (place : Location) (es : List Expr) (ixs ws : List ℕ) → PlaceIn c D place → IsChangedPlace place → (s t : State) → Acting c V first D u s t →
       Alike (Acting c V first D u) (write_place c place ixs ws s) (write_place (flat_of_context c V) (filled_place first place es) ixs ws t)
   alike_write_place (a_location ty root parts) es ixs ws there changed s t r =
-      subst (λ p. Alike (Acting c V first D u) (write_place c (a_location ty root parts) ixs ws s) (write_letters (flat_of_context c V) p.holder p.at.offset p.at.letters ws t)) (sym (place_moved c V first D stands (a_location ty root parts) es ixs there))
-      (alike_write_letters (holder_of c root ixs) (holder_in c D root ixs there) (changed_in c root ixs changed) (place_of c (a_location ty root parts) ixs).at.offset
-      (place_of c (a_location ty root parts) ixs).at.letters ws s t r)
+      subst (λ p. Alike (Acting c V first D u) (write_place c (a_location ty root parts) ixs ws s) (write_letters (flat_of_context c V) p.holder p.reached.offset p.reached.letters ws t)) (sym (place_moved c V first D stands (a_location ty root parts) es ixs there))
+      (alike_write_letters (holder_of c root ixs) (holder_in c D root ixs there) (changed_in c root ixs changed) (place_of c (a_location ty root parts) ixs).reached.offset
+      (place_of c (a_location ty root parts) ixs).reached.letters ws s t r)
 
   alike_atomic_word : (holder : Holder) (offset : ℕ) (kind : Option AtomicKind) (compare word : ℕ) (s t : State) → Acting c V first D u s t →
       Alike (Acting c V first D u) (atomic_word c holder offset kind compare word s) (atomic_word (flat_of_context c V) (moved first holder) offset kind compare word t)
@@ -281,9 +281,9 @@ module _ (c : Context) (V : List Variable) (first : ℕ) (D : ℕ → Type 0) (u
   alike_atomic_word (in_element slot index) offset kind compare word s t r = alike_asks_word (Acting c V first D u) (acting_follows c V first D u) _ s t r
 
   pub alike_atomic_place : (place : Location) (es : List Expr) (ixs : List ℕ) (kind : Option AtomicKind) (compare word : ℕ) → PlaceIn c D place → (s t : State) → Acting c V first D u s t →
-      Alike (Acting c V first D u) (atomic_word c (place_of c place ixs).holder (place_of c place ixs).at.offset kind compare word s)
-      (atomic_word (flat_of_context c V) (place_of (flat_of_context c V) (filled_place first place es) ixs).holder (place_of (flat_of_context c V) (filled_place first place es) ixs).at.offset kind compare word t)
+      Alike (Acting c V first D u) (atomic_word c (place_of c place ixs).holder (place_of c place ixs).reached.offset kind compare word s)
+      (atomic_word (flat_of_context c V) (place_of (flat_of_context c V) (filled_place first place es) ixs).holder (place_of (flat_of_context c V) (filled_place first place es) ixs).reached.offset kind compare word t)
   alike_atomic_place place es ixs kind compare word there s t r =
-      subst (λ p. Alike (Acting c V first D u) (atomic_word c (place_of c place ixs).holder (place_of c place ixs).at.offset kind compare word s) (atomic_word (flat_of_context c V) p.holder p.at.offset kind compare word t))
+      subst (λ p. Alike (Acting c V first D u) (atomic_word c (place_of c place ixs).holder (place_of c place ixs).reached.offset kind compare word s) (atomic_word (flat_of_context c V) p.holder p.reached.offset kind compare word t))
       (sym (place_moved c V first D stands place es ixs there))
-      (alike_atomic_word (place_of c place ixs).holder (place_of c place ixs).at.offset kind compare word s t r)
+      (alike_atomic_word (place_of c place ixs).holder (place_of c place ixs).reached.offset kind compare word s t r)

@@ -1,11 +1,10 @@
 -- How a lane of a program and one of the program without calls stand to one another, inside one call of a function.
 use Rattle.std.proofs.Common.{◌≡◌, ◌∙◌, refl, sym, ap, subst, ℕ, ◌+◌, ◌<◌, ◌≤◌, ◌⊎◌, inl, inr, List, [], ◌∷◌, map, length, Some, slice_get, arith}
-use Rattle.std.specs.Prelude.{slice_set}
+use Rattle.std.specs.Prelude.{option_map, slice_set}
 use Rattle.std.proofs.lemmas.List.{get_or-set_other, get_or-set_same, length-map}
 use Rattle.std.proofs.lemmas.Bool.{cases_eq}
 use Rattle.std.proofs.lemmas.Option.{unwrap_or-slice_get}
 use Rattle.std.proofs.Math.Seq.{map-set_same}
-use Rattle.std.specs.Prelude.{option_map}
 use Rattle.hl_meaning.specs.Types.{Ty, void_type}
 use Rattle.hl_meaning.specs.Places.{variable_type}
 use Rattle.hl_meaning.specs.Programs.{Variable}

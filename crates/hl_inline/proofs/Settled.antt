@@ -7,7 +7,8 @@ use Rattle.hl_meaning.specs.Views.{plain_expr, plain_ty}
 use Rattle.hl_meaning.proofs.Plain.{plain_expr-is}
 use Rattle.hl_inline.specs.Building.{Made, made, operand_behind, valued}
 use Rattle.hl_inline.specs.FlatTrees.{FlatStmt, flat_local}
-use Rattle.hl_inline.specs.Flattening.{Fresh, next_of, reading, saved, settled, token_of, unnamed, with_variables}
+use Rattle.hl_inline.specs.Emitting.{reading, saved, settled, token_of}
+use Rattle.hl_inline.specs.Fresh.{Fresh, next_of, unnamed, with_variables}
 
 pub not-true : (b : Bool) → not b ≡ true → b ≡ false
 not-true true e = absurd (cc)

@@ -28,8 +28,9 @@ use Rattle.hl_source.specs.Operations.{binary_words, component_kind, converted, 
 use Rattle.hl_source.specs.State.{Context, Progress, State, after, asks, asks_word, each, gives, no_value, reply_words, variable_words}
 use Rattle.hl_source.specs.Offsets.{Holder, Reached, in_constant, in_element, in_shared, in_variable, indexes_of_steps, literal_indexes, picked_words, place_of, reached, slot_of, start_of, type_of_root}
 use Rattle.hl_source.specs.Memory.{byte_offset, cell, constant_words, load_four, pieces, read_place, read_words, shared_size, within, word_of, word_offsets, write_place}
-use Rattle.hl_source.specs.Expressions.{acts, arguments, assigned, atomic_original, assigns, copies_out, evaluates, no_callee, parameters_of, read_if, starts, write_if}
-use Rattle.hl_inline.specs.Operands.{expr_if_list, exprs_list, operand_exprs, place_exprs}
+use Rattle.hl_source.specs.Expressions.{acts, arguments, assigned, atomic_original, assigns, copies_out, evaluates, no_callee, parameters_of, read_if, initial_parameters, write_if}
+use Rattle.hl_inline.proofs.OperandExpressions.{expr_if_list, exprs_list, operand_exprs}
+use Rattle.hl_inline.specs.Operands.{place_exprs}
 use Rattle.hl_inline.proofs.Induction.{Every, Step, by_operands, every_back}
 use Rattle.hl_inline.proofs.ProgressLemmas.{after_giving}
 use Rattle.hl_inline.proofs.OperandLemmas.{evaluate_all, grouped, is_call_form, operands_all}
@@ -127,7 +128,7 @@ root_path s (Some t) parts ty h = h
 
 pub place_fits : (c : Context) (place : Location) → IsPlace c.scope place → (ixs : List ℕ) (s : State) → Yields (Fits c.scope.structs (place_type place)) (read_place c place ixs s)
 place_fits c (a_location ty root parts) h ixs s =
-    let at = (place_of c (a_location ty root parts) ixs).at in
+    let at = (place_of c (a_location ty root parts) ixs).reached in
     yields_giving (λ ws. length ws ≡ words_of c.scope.structs at.ty) (Fits c.scope.structs ty) (λ ws. picked at.letters (map_2 word_as (kinds_of c.scope.structs at.ty) ws))
     (λ ws e. picked_fits c.scope.structs at ty (map_2 word_as (kinds_of c.scope.structs at.ty) ws)
     (reached_as c.scope.structs (start_of (type_of_root c root)) parts (indexes_of_steps root ixs) (type_of_root c root) ty refl refl (root_path c.scope (root_type c.scope root) parts ty h.3))
@@ -459,8 +460,8 @@ module _ (c : Context) (are : AreStructs c.scope.structs) (callees : CalleesFit 
       by_function None is result = absurd (none-some ty result)
       by_function (Some d) is result =
           yields_after (λ words. Unit {0}) (Fits c.scope.structs ty) (arguments c args (parameters_of c function) s) _ (yields_any (λ words. Unit {0}) (λ words. tt) (arguments c args (parameters_of c function) s)) (λ words s1 x.
-          yields_after (Fits c.scope.structs ty) (Fits c.scope.structs ty) (slice_index_or c.callees function no_callee (starts words) s1.exchange) _
-          (subst (λ t. Yields (Fits c.scope.structs t) (slice_index_or c.callees function no_callee (starts words) s1.exchange)) (same_Some d.result ty result) (callees function d is (starts words) s1.exchange))
+          yields_after (Fits c.scope.structs ty) (Fits c.scope.structs ty) (slice_index_or c.callees function no_callee (initial_parameters words) s1.exchange) _
+          (subst (λ t. Yields (Fits c.scope.structs t) (slice_index_or c.callees function no_callee (initial_parameters words) s1.exchange)) (same_Some d.result ty result) (callees function d is (initial_parameters words) s1.exchange))
           (λ result ended fits.
           yields_giving (λ _. Unit {0}) (Fits c.scope.structs ty) (λ _. result) (λ _ y. fits) (copies_out c args words ended.variables (record s1 { exchange = ended.exchange }))
           (yields_any (λ _. Unit {0}) (λ _. tt) (copies_out c args words ended.variables (record s1 { exchange = ended.exchange })))))

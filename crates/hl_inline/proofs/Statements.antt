@@ -5,11 +5,11 @@ use Rattle.std.proofs.lemmas.Bool.{eq-eqb, ne_eqb}
 use Rattle.lane_core.specs.declared.event.Asked.TheVariants.{Goes}
 use Rattle.lane_core.specs.Lane.{Lane, standing}
 use Rattle.hl_source.specs.State.{Progress, State, after, ends_at, goes_with}
-use Rattle.hl_source.specs.Statements.{Doing, Leaving, at_end, by_break, by_continue, by_return, does, then_loop, then_next, then_turn, turns}
+use Rattle.hl_source.specs.Statements.{Doing, Leaving, after_body, after_statement, after_turn, at_end, by_break, by_continue, by_return, does, turns}
 use Rattle.hl_inline.specs.FlatTrees.{Flat, FlatStmt, flat_named}
 use Rattle.hl_inline.specs.FlatLane.{FlatDoing, FlatLeaving, flat_end, flat_to, flat_turns, named_end, performs, performs_if, then_flat}
 use Rattle.hl_inline.proofs.Performing.{Opens, Yields, perform, perform_append, perform_ends, perform_next, perform_one}
-use Rattle.hl_inline.specs.Flattening.{as_alternative, as_one}
+use Rattle.hl_inline.specs.EmittedCode.{as_alternative, as_one}
 
 -- code as one statement does what the code does
 pub performs_as_one : (f : Flat) (lane : Lane) (n : ℕ) (code : List FlatStmt) (s : State) → performs f lane n (as_one code) s ≡ perform f lane n code s
@@ -53,7 +53,7 @@ module _ (exit break_to continue_to : ℕ) where
   -- statements one after another
   pub does_next : (f : Flat) (lane : Lane) (n : ℕ) (A B J C : State → State → Type 0) (W : List ℕ → State → Type 0) (xs ys : List FlatStmt) (t : State) (p : Progress Leaving) (next : Doing) →
       DoesAs exit break_to continue_to A J C W p (perform f lane n xs t) → ((s u : State) → A s u → DoesAs exit break_to continue_to B J C W (next s) (perform f lane n ys u)) →
-      DoesAs exit break_to continue_to B J C W (after p (then_next next)) (perform f lane n (xs ++ ys) t)
+      DoesAs exit break_to continue_to B J C W (after p (after_statement next)) (perform f lane n (xs ++ ys) t)
   does_next f lane n A B J C W xs ys t (ends_at run) next e h = perform_ends f lane n xs ys t run e
   does_next f lane n A B J C W xs ys t (goes_with at_end s) next (u, e, a) h =
       subst (DoesAs exit break_to continue_to B J C W (next s)) (sym (perform_next f lane n xs ys t u e)) (h s u a)
@@ -82,7 +82,7 @@ other_name name other t apart = ap (λ b. goes_with (if b then flat_end else fla
 -- the body of a loop and what follows a turn
 pub body_turn : (f : Flat) (lane : Lane) (n : ℕ) (exit break_to continue_to : ℕ) → (continue_to ≡ break_to → ⊥) → (continue_to ≡ exit → ⊥) → (A J I : State → State → Type 0) (W : List ℕ → State → Type 0) → ((s t : State) → A s t → J s t) → ((s t : State) → J s t → I s t) →
     (body behind : List FlatStmt) (t : State) (p : Progress Leaving) (next : Doing) → DoesAs exit break_to continue_to A J J W p (perform f lane n body t) → ((s u : State) → J s u → TurnAs exit break_to I W (next s) (perform f lane n behind u)) →
-    TurnAs exit break_to I W (after p (then_turn next)) (perform f lane n (flat_named continue_to (as_one body) ∷ behind) t)
+    TurnAs exit break_to I W (after p (after_body next)) (perform f lane n (flat_named continue_to (as_one body) ∷ behind) t)
 body_turn f lane n exit break_to continue_to apart apart' A J I W less weak body behind t p next does h =
     by_leaving p does
   where
@@ -96,7 +96,7 @@ body_turn f lane n exit break_to continue_to apart apart' A J I W less weak body
     outward : (name : ℕ) (u : State) → performs f lane n (flat_named continue_to (as_one body)) t ≡ goes_with (flat_to name) u → perform f lane n (flat_named continue_to (as_one body) ∷ behind) t ≡ goes_with (flat_to name) u
     outward name u e = ap (λ q. after q (then_flat (perform f lane n behind))) e
 
-    by_leaving : (p : Progress Leaving) → DoesAs exit break_to continue_to A J J W p (perform f lane n body t) → TurnAs exit break_to I W (after p (then_turn next)) (perform f lane n (flat_named continue_to (as_one body) ∷ behind) t)
+    by_leaving : (p : Progress Leaving) → DoesAs exit break_to continue_to A J J W p (perform f lane n body t) → TurnAs exit break_to I W (after p (after_body next)) (perform f lane n (flat_named continue_to (as_one body) ∷ behind) t)
     by_leaving (ends_at run) e = ap (λ q. after q (then_flat (perform f lane n behind))) (named (ends_at run) e)
     by_leaving (goes_with at_end s) (u, e, a) =
         subst (TurnAs exit break_to I W (next s)) (sym (onward u (named (goes_with flat_end u) e))) (h s u (less s u a))
@@ -119,7 +119,7 @@ turns_alike exit break_to outer_break outer_continue apart I C W same turn flat_
     whole q e = ap (λ q. after (after q (then_flat (flat_turns k flat_turn))) (named_end break_to)) e
 
     by_turn : ((s1 t1 : State) → I s1 t1 → DoesAs exit outer_break outer_continue I I C W (turns k turn s1) (after (flat_turns k flat_turn t1) (named_end break_to))) →
-        (p : Progress Leaving) → TurnAs exit break_to I W p (flat_turn t) → DoesAs exit outer_break outer_continue I I C W (after p (then_loop (turns k turn))) (after (flat_turns (suc k) flat_turn t) (named_end break_to))
+        (p : Progress Leaving) → TurnAs exit break_to I W p (flat_turn t) → DoesAs exit outer_break outer_continue I I C W (after p (after_turn (turns k turn))) (after (flat_turns (suc k) flat_turn t) (named_end break_to))
     by_turn next (ends_at run) e = whole (ends_at run) e
     by_turn next (goes_with at_end s1) (u, e, i1) = subst (DoesAs exit outer_break outer_continue I I C W (turns k turn s1)) (sym (whole (goes_with flat_end u) e)) (next s1 u i1)
     by_turn next (goes_with by_break s1) (u, e, i1) = (u, whole (goes_with (flat_to break_to) u) e ∙ same_name break_to u, i1)

@@ -12,16 +12,20 @@ use Rattle.hl_meaning.specs.Trees.{Arg, Args, Expr, Form, Location, PathParts, R
 use Rattle.hl_meaning.specs.Programs.{FunctionDef, Variable}
 use Rattle.hl_meaning.specs.Places.{Scope, path_type, root_type, variable_type}
 use Rattle.hl_meaning.specs.WellFormed.{ArePassed, IsExpr, IsForm, IsOriginal, IsPassed, IsPlace, callee_params, callee_result, param_of}
-use Rattle.hl_inline.specs.IndexedVariables.{Reached, call_mention, reached_by}
-use Rattle.hl_inline.specs.Operands.{arg_exprs, args_exprs, operand_exprs, place_exprs}
-use Rattle.hl_inline.specs.Flattening.{Inlined, Instance, call, emitter, inlined_at}
+use Rattle.hl_inline.specs.IndexedVariables.{CallTree, call_tree_of}
+use Rattle.hl_inline.specs.Occurrences.{call_occurrence}
+use Rattle.hl_inline.proofs.OperandExpressions.{arg_exprs, args_exprs, operand_exprs}
+use Rattle.hl_inline.specs.Operands.{place_exprs}
+use Rattle.hl_inline.specs.EmittedExpressions.{emitter}
+use Rattle.hl_inline.specs.Fresh.{Instance}
+use Rattle.hl_inline.specs.InlinedCalls.{Inlined, call, inlined_at}
 use Rattle.hl_inline.proofs.Induction.{Every, Step, by_operands, every_back, every_front}
 use Rattle.hl_inline.proofs.OperandLemmas.{args_by, args_emitters_all, form_emitter_all, is_call_form}
 use Rattle.hl_inline.proofs.Reading.{there_by_map}
 use Rattle.hl_inline.proofs.Typed.{IsValue, ParamsSome, form_values, place_values}
 use Rattle.hl_inline.proofs.TouchedForms.{FormFits, PicksLiterally, PlaceFits, RootFits}
-use Rattle.hl_inline.proofs.TouchedNodes.{EmitsText, node_as}
-use Rattle.hl_inline.proofs.TouchedCalls.{ArgsText, ArgText, CalleeAs, call_as}
+use Rattle.hl_inline.proofs.TouchedNodes.{EmitsOccurrences, node_as}
+use Rattle.hl_inline.proofs.TouchedCalls.{ArgsOccurrences, ArgOccurrences, CalleeAs, call_as}
 
 -- ---- places that are there
 
@@ -99,58 +103,58 @@ form_picks s ty (method_form resource count address value) h = tt
 form_picks s ty (atomic_form target kind compare value original) h = tt
 
 -- a function that may be called, with what becomes of it and what it reaches
-pub record CalleeThere (s : Scope) (before : List Reached) (function : ℕ) (d : FunctionDef) (g : Inlined) : Type 0 where
-  pub as_reached : CalleeAs s.structs (length s.constants) (reached_by before (call_mention function)) g
+pub record CalleeThere (s : Scope) (before : List CallTree) (function : ℕ) (d : FunctionDef) (g : Inlined) : Type 0 where
+  pub as_reached : CalleeAs s.structs (length s.constants) (call_tree_of before (call_occurrence function)) g
   pub parameters : g.parameters ≡ d.parameters
 
-module _ (s : Scope) (before : List Reached) (first : ℕ) (high : length s.constants ≤ first) (k : List Inlined) (i : Instance) (is : i.first ≡ first)
+module _ (s : Scope) (before : List CallTree) (first : ℕ) (high : length s.constants ≤ first) (k : List Inlined) (i : Instance) (is : i.first ≡ first)
     (callees : (function : ℕ) (d : FunctionDef) → slice_get s.functions function ≡ Some d → CalleeThere s before function d (inlined_at k function)) (some_params : (function : ℕ) → ParamsSome (callee_params (slice_get s.functions function))) where
   -- what is shown of each expression
   abbrev pub Indexing : Expr → Type 0
-  Indexing e = IsExpr s e → EmitsText s.structs before (length s.constants) first (length s.variables) e (emitter k i e)
+  Indexing e = IsExpr s e → EmitsOccurrences s.structs before (length s.constants) first (length s.variables) e (emitter k i e)
 
-  indexing_all : (es : List Expr) → Every Indexing es → Every (IsValue s) es → Every (λ e. EmitsText s.structs before (length s.constants) first (length s.variables) e (emitter k i e)) es
+  indexing_all : (es : List Expr) → Every Indexing es → Every (IsValue s) es → Every (λ e. EmitsOccurrences s.structs before (length s.constants) first (length s.variables) e (emitter k i e)) es
   indexing_all [] indexing values = tt
   indexing_all (e ∷ es) indexing values = (indexing.0 values.0.0, indexing_all es indexing.1 values.1)
 
   plain_step : (ty : Ty) (at : ℕ) (form : Form) → is_call_form form ≡ false → Every Indexing (operand_exprs form) → Indexing (an_expr ty at form)
   plain_step ty at form plain indexing h =
-      subst (EmitsText s.structs before (length s.constants) first (length s.variables) (an_expr ty at form)) (sym (form_emitter_all k i ty at form plain))
+      subst (EmitsOccurrences s.structs before (length s.constants) first (length s.variables) (an_expr ty at form)) (sym (form_emitter_all k i ty at form plain))
       (node_as s.structs before (length s.constants) first (length s.variables) high i is ty at form (emitter k i) plain (form_picks s ty form h.1) (form_fits s ty form h.1)
       (indexing_all (operand_exprs form) indexing (form_values s some_params ty form h.1)))
 
-  arg_text : (ty : Ty) (copying : Copying) (arg : Arg) → IsPassed s ty copying arg → Every Indexing (arg_exprs arg) → ArgText s.structs before (length s.constants) first (length s.variables) high (emitter k i) arg
-  arg_text ty CopyIn (value_arg value) h indexing = indexing.0 h.0
-  arg_text ty CopyIn (place_arg place) h indexing = absurd h
-  arg_text ty CopyOut (value_arg value) h indexing = absurd h
-  arg_text ty CopyOut (place_arg place) h indexing = (place_fits s place h.0, indexing_all (place_exprs place) indexing (place_values s place h.0))
-  arg_text ty CopyBoth (value_arg value) h indexing = absurd h
-  arg_text ty CopyBoth (place_arg place) h indexing = (place_fits s place h.0, indexing_all (place_exprs place) indexing (place_values s place h.0))
+  arg_occurrences_are : (ty : Ty) (copying : Copying) (arg : Arg) → IsPassed s ty copying arg → Every Indexing (arg_exprs arg) → ArgOccurrences s.structs before (length s.constants) first (length s.variables) high (emitter k i) arg
+  arg_occurrences_are ty CopyIn (value_arg value) h indexing = indexing.0 h.0
+  arg_occurrences_are ty CopyIn (place_arg place) h indexing = absurd h
+  arg_occurrences_are ty CopyOut (value_arg value) h indexing = absurd h
+  arg_occurrences_are ty CopyOut (place_arg place) h indexing = (place_fits s place h.0, indexing_all (place_exprs place) indexing (place_values s place h.0))
+  arg_occurrences_are ty CopyBoth (value_arg value) h indexing = absurd h
+  arg_occurrences_are ty CopyBoth (place_arg place) h indexing = (place_fits s place h.0, indexing_all (place_exprs place) indexing (place_values s place h.0))
 
-  args_text_from : (variables : List Variable) (parameters : List Parameter) (args : Args) → ArePassed s (map (param_of variables) parameters) args → Every Indexing (args_exprs args) →
-      ArgsText s.structs before (length s.constants) first (length s.variables) high (emitter k i) args parameters
-  args_text_from variables parameters no_args h indexing = tt
-  args_text_from variables [] (more_args arg rest) h indexing = absurd h
-  args_text_from variables (p ∷ parameters) (more_args arg rest) h indexing =
-      by_type (λ h. args_text_from variables parameters rest h (every_back Indexing (arg_exprs arg) (args_exprs rest) indexing)) (variable_type variables p.variable) h
+  args_occurrences_from : (variables : List Variable) (parameters : List Parameter) (args : Args) → ArePassed s (map (param_of variables) parameters) args → Every Indexing (args_exprs args) →
+      ArgsOccurrences s.structs before (length s.constants) first (length s.variables) high (emitter k i) args parameters
+  args_occurrences_from variables parameters no_args h indexing = tt
+  args_occurrences_from variables [] (more_args arg rest) h indexing = absurd h
+  args_occurrences_from variables (p ∷ parameters) (more_args arg rest) h indexing =
+      by_type (λ h. args_occurrences_from variables parameters rest h (every_back Indexing (arg_exprs arg) (args_exprs rest) indexing)) (variable_type variables p.variable) h
     where
-      by_type : (ArePassed s (map (param_of variables) parameters) rest → ArgsText s.structs before (length s.constants) first (length s.variables) high (emitter k i) rest parameters) →
+      by_type : (ArePassed s (map (param_of variables) parameters) rest → ArgsOccurrences s.structs before (length s.constants) first (length s.variables) high (emitter k i) rest parameters) →
           (o : Option Ty) → ArePassed s (option_map (λ ty. record { ty = ty; copying = p.copying }) o ∷ map (param_of variables) parameters) (more_args arg rest) →
-          ArgsText s.structs before (length s.constants) first (length s.variables) high (emitter k i) (more_args arg rest) (p ∷ parameters)
+          ArgsOccurrences s.structs before (length s.constants) first (length s.variables) high (emitter k i) (more_args arg rest) (p ∷ parameters)
       by_type next None h = absurd h
-      by_type next (Some ty) h = (arg_text ty p.copying arg h.0 (every_front Indexing (arg_exprs arg) (args_exprs rest) indexing), next h.1)
+      by_type next (Some ty) h = (arg_occurrences_are ty p.copying arg h.0 (every_front Indexing (arg_exprs arg) (args_exprs rest) indexing), next h.1)
 
   call_step : (ty : Ty) (at function : ℕ) (args : Args) → Every Indexing (args_exprs args) → Indexing (an_expr ty at (call_form function args))
   call_step ty at function args indexing h =
-      subst (λ l. EmitsText s.structs before (length s.constants) first (length s.variables) (an_expr ty at (call_form function args)) (call i ty at (inlined_at k function) l)) (sym (args_emitters_all k i args))
+      subst (λ l. EmitsOccurrences s.structs before (length s.constants) first (length s.variables) (an_expr ty at (call_form function args)) (call i ty at (inlined_at k function) l)) (sym (args_emitters_all k i args))
       (by_function (slice_get s.functions function) refl h.1.0 h.1.1)
     where
       by_function : (o : Option FunctionDef) → slice_get s.functions function ≡ o → callee_result o ≡ Some ty → ArePassed s (callee_params o) args →
-          EmitsText s.structs before (length s.constants) first (length s.variables) (an_expr ty at (call_form function args)) (call i ty at (inlined_at k function) (args_by (emitter k i) args))
+          EmitsOccurrences s.structs before (length s.constants) first (length s.variables) (an_expr ty at (call_form function args)) (call i ty at (inlined_at k function) (args_by (emitter k i) args))
       by_function None there result passed = absurd (none-some ty result)
       by_function (Some d) there result passed =
           call_as s.structs before (length s.constants) first (length s.variables) high i is (emitter k i) ty at function args (inlined_at k function) callee.as_reached
-          (subst (ArgsText s.structs before (length s.constants) first (length s.variables) high (emitter k i) args) (sym callee.parameters) (args_text_from d.variables d.parameters args passed indexing))
+          (subst (ArgsOccurrences s.structs before (length s.constants) first (length s.variables) high (emitter k i) args) (sym callee.parameters) (args_occurrences_from d.variables d.parameters args passed indexing))
         where
           callee : CalleeThere s before function d (inlined_at k function)
           callee = callees function d there

@@ -9,171 +9,173 @@ use Rattle.std.proofs.lemmas.List.Sorted.{IsPermutation-refl}
 use Rattle.hl_meaning.specs.Trees.{Expr, Exprs, Form, Location, MaybeExpr, MaybeLocation, PathParts, Root, Target, a_location, an_expr, atomic_form, binary_form, build_form, bytes_target, call_form, choose_form, constant_root, convert_form, element_root, index_part, intrinsic_form, literal_form, member_part, method_form, more_exprs, more_parts, no_expr, no_exprs, no_location, no_parts, pick_form, place_target, read_form, shared_root, some_expr, some_location, swizzle_part, unary_form, variable_root, write_form}
 use Rattle.hl_meaning.specs.Programs.{StructDef, Variable}
 use Rattle.hl_meaning.specs.Places.{has_literal_indexes, is_literal}
-use Rattle.hl_inline.specs.IndexedVariables.{Mention, Reached, expr_if_mentions, expr_mentions, exprs_mentions, form_mentions, location_if_mentions, location_mentions, parts_mentions, place_mention, target_mentions}
-use Rattle.hl_inline.specs.Operands.{expr_if_list, exprs_list, filled_parts, filled_place, operand_exprs, parts_exprs, place_exprs, place_if_exprs, target_exprs}
+use Rattle.hl_inline.specs.IndexedVariables.{CallTree}
+use Rattle.hl_inline.specs.Occurrences.{Occurrence, expr_if_occurrences, expr_occurrences, exprs_occurrences, form_occurrences, location_if_occurrences, location_occurrences, parts_occurrences, place_occurrence, target_occurrences}
+use Rattle.hl_inline.proofs.OperandExpressions.{expr_if_list, exprs_list, operand_exprs, place_if_exprs}
+use Rattle.hl_inline.specs.Operands.{filled_parts, filled_place, parts_exprs, place_exprs, target_exprs}
 use Rattle.hl_inline.proofs.OperandLemmas.{is_call_form}
 use Rattle.hl_inline.proofs.Touching.{Touches, any_moved, or_false, touched, touches_moved}
 
--- ---- texts
+-- ---- occurrences
 
 -- the places and calls in some expressions
-abbrev pub texts : List Expr → List Mention
-texts [] = []
-texts (e ∷ es) = expr_mentions e ++ texts es
+abbrev pub list_occurrences : List Expr → List Occurrence
+list_occurrences [] = []
+list_occurrences (e ∷ es) = expr_occurrences e ++ list_occurrences es
 
-pub texts-append : (xs ys : List Expr) → texts (xs ++ ys) ≡ texts xs ++ texts ys
-texts-append [] ys = refl
-texts-append (x ∷ xs) ys = ap (λ l. expr_mentions x ++ l) (texts-append xs ys) ∙ sym (append_assoc (expr_mentions x) (texts xs) (texts ys))
+pub list_occurrences-append : (xs ys : List Expr) → list_occurrences (xs ++ ys) ≡ list_occurrences xs ++ list_occurrences ys
+list_occurrences-append [] ys = refl
+list_occurrences-append (x ∷ xs) ys = ap (λ l. expr_occurrences x ++ l) (list_occurrences-append xs ys) ∙ sym (append_assoc (expr_occurrences x) (list_occurrences xs) (list_occurrences ys))
 
 -- a place itself, without its indexes
-abbrev pub own_place : Location → List Mention
-own_place (a_location ty root parts) = place_mention root parts ∷ []
+abbrev pub own_place : Location → List Occurrence
+own_place (a_location ty root parts) = place_occurrence root parts ∷ []
 
-abbrev pub own_target : Target → List Mention
+abbrev pub own_target : Target → List Occurrence
 own_target (place_target place) = own_place place
 own_target (bytes_target resource address) = []
 
-abbrev pub own_place_if : MaybeLocation → List Mention
+abbrev pub own_place_if : MaybeLocation → List Occurrence
 own_place_if no_location = []
 own_place_if (some_location place) = own_place place
 
 -- the places of a form, without what its operands hold
-abbrev pub own_places : Form → List Mention
+abbrev pub own_places : Form → List Occurrence
 own_places (read_form place) = own_place place
 own_places (write_form to op common value old) = own_place to
 own_places (atomic_form target kind compare value original) = own_target target ++ own_place_if original
 own_places _ = []
 
-parts_text : (parts : PathParts) → parts_mentions parts ≡ texts (parts_exprs parts)
-parts_text no_parts = refl
-parts_text (more_parts (index_part index) rest) = ap (λ l. expr_mentions index ++ l) (parts_text rest)
-parts_text (more_parts (member_part number) rest) = parts_text rest
-parts_text (more_parts (swizzle_part letters) rest) = parts_text rest
+parts_occurrences_are : (parts : PathParts) → parts_occurrences parts ≡ list_occurrences (parts_exprs parts)
+parts_occurrences_are no_parts = refl
+parts_occurrences_are (more_parts (index_part index) rest) = ap (λ l. expr_occurrences index ++ l) (parts_occurrences_are rest)
+parts_occurrences_are (more_parts (member_part number) rest) = parts_occurrences_are rest
+parts_occurrences_are (more_parts (swizzle_part letters) rest) = parts_occurrences_are rest
 
-pub place_text : (place : Location) → location_mentions place ≡ own_place place ++ texts (place_exprs place)
-place_text (a_location ty (variable_root number) parts) = ap (λ l. place_mention (variable_root number) parts ∷ l) (parts_text parts)
-place_text (a_location ty (constant_root number) parts) = ap (λ l. place_mention (constant_root number) parts ∷ l) (parts_text parts)
-place_text (a_location ty (shared_root number) parts) = ap (λ l. place_mention (shared_root number) parts ∷ l) (parts_text parts)
-place_text (a_location ty (element_root resource index) parts) = ap (λ l. place_mention (element_root resource index) parts ∷ (expr_mentions index ++ l)) (parts_text parts)
+pub place_occurrences_are : (place : Location) → location_occurrences place ≡ own_place place ++ list_occurrences (place_exprs place)
+place_occurrences_are (a_location ty (variable_root number) parts) = ap (λ l. place_occurrence (variable_root number) parts ∷ l) (parts_occurrences_are parts)
+place_occurrences_are (a_location ty (constant_root number) parts) = ap (λ l. place_occurrence (constant_root number) parts ∷ l) (parts_occurrences_are parts)
+place_occurrences_are (a_location ty (shared_root number) parts) = ap (λ l. place_occurrence (shared_root number) parts ∷ l) (parts_occurrences_are parts)
+place_occurrences_are (a_location ty (element_root resource index) parts) = ap (λ l. place_occurrence (element_root resource index) parts ∷ (expr_occurrences index ++ l)) (parts_occurrences_are parts)
 
-place_if_text : (place : MaybeLocation) → location_if_mentions place ≡ own_place_if place ++ texts (place_if_exprs place)
-place_if_text no_location = refl
-place_if_text (some_location place) = place_text place
+place_if_occurrences_are : (place : MaybeLocation) → location_if_occurrences place ≡ own_place_if place ++ list_occurrences (place_if_exprs place)
+place_if_occurrences_are no_location = refl
+place_if_occurrences_are (some_location place) = place_occurrences_are place
 
-target_text : (target : Target) → target_mentions target ≡ own_target target ++ texts (target_exprs target)
-target_text (place_target place) = place_text place
-target_text (bytes_target resource address) = sym (append-nil (expr_mentions address))
+target_occurrences_are : (target : Target) → target_occurrences target ≡ own_target target ++ list_occurrences (target_exprs target)
+target_occurrences_are (place_target place) = place_occurrences_are place
+target_occurrences_are (bytes_target resource address) = sym (append-nil (expr_occurrences address))
 
-expr_if_text : (value : MaybeExpr) → expr_if_mentions value ≡ texts (expr_if_list value)
-expr_if_text no_expr = refl
-expr_if_text (some_expr value) = sym (append-nil (expr_mentions value))
+expr_if_occurrences_are : (value : MaybeExpr) → expr_if_occurrences value ≡ list_occurrences (expr_if_list value)
+expr_if_occurrences_are no_expr = refl
+expr_if_occurrences_are (some_expr value) = sym (append-nil (expr_occurrences value))
 
-exprs_text : (es : Exprs) → exprs_mentions es ≡ texts (exprs_list es)
-exprs_text no_exprs = refl
-exprs_text (more_exprs first rest) = ap (λ l. expr_mentions first ++ l) (exprs_text rest)
+exprs_occurrences_are : (es : Exprs) → exprs_occurrences es ≡ list_occurrences (exprs_list es)
+exprs_occurrences_are no_exprs = refl
+exprs_occurrences_are (more_exprs first rest) = ap (λ l. expr_occurrences first ++ l) (exprs_occurrences_are rest)
 
--- literals mention nothing
-literal_text : (e : Expr) → is_literal e ≡ true → expr_mentions e ≡ []
-literal_text (an_expr ty at (literal_form word)) h = refl
-literal_text (an_expr ty at (read_form place)) h = absurd (false≢true h)
-literal_text (an_expr ty at (write_form to op common value old)) h = absurd (false≢true h)
-literal_text (an_expr ty at (convert_form value)) h = absurd (false≢true h)
-literal_text (an_expr ty at (unary_form op value)) h = absurd (false≢true h)
-literal_text (an_expr ty at (binary_form op left right)) h = absurd (false≢true h)
-literal_text (an_expr ty at (choose_form cond consequent alternative)) h = absurd (false≢true h)
-literal_text (an_expr ty at (build_form parts)) h = absurd (false≢true h)
-literal_text (an_expr ty at (pick_form value parts)) h = absurd (false≢true h)
-literal_text (an_expr ty at (call_form function args)) h = absurd (false≢true h)
-literal_text (an_expr ty at (intrinsic_form number args)) h = absurd (false≢true h)
-literal_text (an_expr ty at (method_form resource count address value)) h = absurd (false≢true h)
-literal_text (an_expr ty at (atomic_form target kind compare value original)) h = absurd (false≢true h)
+-- nothing occurs in literals
+literal_occurrences_are : (e : Expr) → is_literal e ≡ true → expr_occurrences e ≡ []
+literal_occurrences_are (an_expr ty at (literal_form word)) h = refl
+literal_occurrences_are (an_expr ty at (read_form place)) h = absurd (false≢true h)
+literal_occurrences_are (an_expr ty at (write_form to op common value old)) h = absurd (false≢true h)
+literal_occurrences_are (an_expr ty at (convert_form value)) h = absurd (false≢true h)
+literal_occurrences_are (an_expr ty at (unary_form op value)) h = absurd (false≢true h)
+literal_occurrences_are (an_expr ty at (binary_form op left right)) h = absurd (false≢true h)
+literal_occurrences_are (an_expr ty at (choose_form cond consequent alternative)) h = absurd (false≢true h)
+literal_occurrences_are (an_expr ty at (build_form parts)) h = absurd (false≢true h)
+literal_occurrences_are (an_expr ty at (pick_form value parts)) h = absurd (false≢true h)
+literal_occurrences_are (an_expr ty at (call_form function args)) h = absurd (false≢true h)
+literal_occurrences_are (an_expr ty at (intrinsic_form number args)) h = absurd (false≢true h)
+literal_occurrences_are (an_expr ty at (method_form resource count address value)) h = absurd (false≢true h)
+literal_occurrences_are (an_expr ty at (atomic_form target kind compare value original)) h = absurd (false≢true h)
 
-literal_parts_text : (parts : PathParts) → has_literal_indexes parts ≡ true → parts_mentions parts ≡ []
-literal_parts_text no_parts h = refl
-literal_parts_text (more_parts (index_part index) rest) h =
+literal_parts_occurrences_are : (parts : PathParts) → has_literal_indexes parts ≡ true → parts_occurrences parts ≡ []
+literal_parts_occurrences_are no_parts h = refl
+literal_parts_occurrences_are (more_parts (index_part index) rest) h =
     let both = and_parts (is_literal index) (has_literal_indexes rest) h in
-    ap (λ l. l ++ parts_mentions rest) (literal_text index both.0) ∙ literal_parts_text rest both.1
-literal_parts_text (more_parts (member_part number) rest) h = literal_parts_text rest h
-literal_parts_text (more_parts (swizzle_part letters) rest) h = literal_parts_text rest h
+    ap (λ l. l ++ parts_occurrences rest) (literal_occurrences_are index both.0) ∙ literal_parts_occurrences_are rest both.1
+literal_parts_occurrences_are (more_parts (member_part number) rest) h = literal_parts_occurrences_are rest h
+literal_parts_occurrences_are (more_parts (swizzle_part letters) rest) h = literal_parts_occurrences_are rest h
 
 -- steps into a value that isn't a place have literals as indexes
 abbrev pub PicksLiterally : Form → Type 0
 PicksLiterally (pick_form value parts) = has_literal_indexes parts ≡ true
 PicksLiterally _ = Unit {0}
 
--- the text of a form: its places and its operands' texts, of which two pieces may stand in the other order
-record FormText (form : Form) : Type 0 where
-  front : List Mention
-  early : List Mention
-  late : List Mention
-  back : List Mention
-  apart : own_places form ++ texts (operand_exprs form) ≡ front ++ (early ++ (late ++ back))
-  text : form_mentions form ≡ front ++ (late ++ (early ++ back))
+-- the occurrences in a form: its places and those in its operands, of which two pieces may stand in the other order
+record FormOccurrences (form : Form) : Type 0 where
+  front : List Occurrence
+  used_undeclared : List Occurrence
+  late : List Occurrence
+  back : List Occurrence
+  apart : own_places form ++ list_occurrences (operand_exprs form) ≡ front ++ (used_undeclared ++ (late ++ back))
+  occurrences : form_occurrences form ≡ front ++ (late ++ (used_undeclared ++ back))
 
-as_it_is : (form : Form) → form_mentions form ≡ own_places form ++ texts (operand_exprs form) → FormText form
+as_it_is : (form : Form) → form_occurrences form ≡ own_places form ++ list_occurrences (operand_exprs form) → FormOccurrences form
 as_it_is form is = record {
-  front = form_mentions form;
-  early = [];
+  front = form_occurrences form;
+  used_undeclared = [];
   late = [];
   back = [];
-  apart = sym is ∙ sym (append-nil (form_mentions form));
-  text = sym (append-nil (form_mentions form));
+  apart = sym is ∙ sym (append-nil (form_occurrences form));
+  occurrences = sym (append-nil (form_occurrences form));
 }
 
-one_text : (e : Expr) → expr_mentions e ≡ texts (e ∷ [])
-one_text e = sym (append-nil (expr_mentions e))
+one_occurrences_are : (e : Expr) → expr_occurrences e ≡ list_occurrences (e ∷ [])
+one_occurrences_are e = sym (append-nil (expr_occurrences e))
 
-form_text : (form : Form) → is_call_form form ≡ false → PicksLiterally form → FormText form
-form_text (literal_form word) plain picks = as_it_is (literal_form word) refl
-form_text (read_form place) plain picks = as_it_is (read_form place) (place_text place)
-form_text (write_form to op common value old) plain picks =
+form_occurrences_are : (form : Form) → is_call_form form ≡ false → PicksLiterally form → FormOccurrences form
+form_occurrences_are (literal_form word) plain picks = as_it_is (literal_form word) refl
+form_occurrences_are (read_form place) plain picks = as_it_is (read_form place) (place_occurrences_are place)
+form_occurrences_are (write_form to op common value old) plain picks =
     as_it_is (write_form to op common value old)
-    (ap (λ l. l ++ expr_mentions value) (place_text to) ∙ (append_assoc (own_place to) (texts (place_exprs to)) (expr_mentions value) ∙
-    ap (λ l. own_place to ++ l) (ap (λ l. texts (place_exprs to) ++ l) (one_text value) ∙ sym (texts-append (place_exprs to) (value ∷ [])))))
-form_text (convert_form value) plain picks = as_it_is (convert_form value) (one_text value)
-form_text (unary_form op value) plain picks = as_it_is (unary_form op value) (one_text value)
-form_text (binary_form op left right) plain picks = as_it_is (binary_form op left right) (ap (λ l. expr_mentions left ++ l) (one_text right))
-form_text (choose_form cond consequent alternative) plain picks =
-    as_it_is (choose_form cond consequent alternative) (ap (λ l. expr_mentions cond ++ (expr_mentions consequent ++ l)) (one_text alternative))
-form_text (build_form parts) plain picks = as_it_is (build_form parts) (exprs_text parts)
-form_text (pick_form value parts) plain picks = as_it_is (pick_form value parts) (ap (λ l. expr_mentions value ++ l) (literal_parts_text parts picks))
-form_text (call_form function args) plain picks = absurd (true≢false plain)
-form_text (intrinsic_form number args) plain picks = as_it_is (intrinsic_form number args) (exprs_text args)
-form_text (method_form resource count address value) plain picks =
-    as_it_is (method_form resource count address value) (ap (λ l. expr_mentions address ++ l) (expr_if_text value))
-form_text (atomic_form target kind compare value original) plain picks = record {
+    (ap (λ l. l ++ expr_occurrences value) (place_occurrences_are to) ∙ (append_assoc (own_place to) (list_occurrences (place_exprs to)) (expr_occurrences value) ∙
+    ap (λ l. own_place to ++ l) (ap (λ l. list_occurrences (place_exprs to) ++ l) (one_occurrences_are value) ∙ sym (list_occurrences-append (place_exprs to) (value ∷ [])))))
+form_occurrences_are (convert_form value) plain picks = as_it_is (convert_form value) (one_occurrences_are value)
+form_occurrences_are (unary_form op value) plain picks = as_it_is (unary_form op value) (one_occurrences_are value)
+form_occurrences_are (binary_form op left right) plain picks = as_it_is (binary_form op left right) (ap (λ l. expr_occurrences left ++ l) (one_occurrences_are right))
+form_occurrences_are (choose_form cond consequent alternative) plain picks =
+    as_it_is (choose_form cond consequent alternative) (ap (λ l. expr_occurrences cond ++ (expr_occurrences consequent ++ l)) (one_occurrences_are alternative))
+form_occurrences_are (build_form parts) plain picks = as_it_is (build_form parts) (exprs_occurrences_are parts)
+form_occurrences_are (pick_form value parts) plain picks = as_it_is (pick_form value parts) (ap (λ l. expr_occurrences value ++ l) (literal_parts_occurrences_are parts picks))
+form_occurrences_are (call_form function args) plain picks = absurd (true≢false plain)
+form_occurrences_are (intrinsic_form number args) plain picks = as_it_is (intrinsic_form number args) (exprs_occurrences_are args)
+form_occurrences_are (method_form resource count address value) plain picks =
+    as_it_is (method_form resource count address value) (ap (λ l. expr_occurrences address ++ l) (expr_if_occurrences_are value))
+form_occurrences_are (atomic_form target kind compare value original) plain picks = record {
   front = own_target target;
-  early = own_place_if original;
-  late = texts (target_exprs target) ++ (texts (expr_if_list compare) ++ expr_mentions value);
-  back = texts (place_if_exprs original);
-  apart = append_assoc (own_target target) (own_place_if original) (texts (target_exprs target ++ (expr_if_list compare ++ value ∷ place_if_exprs original))) ∙
-      ap (λ l. own_target target ++ (own_place_if original ++ l)) operands_text;
-  text = ap (λ l. l ++ (expr_if_mentions compare ++ (expr_mentions value ++ location_if_mentions original))) (target_text target) ∙
-      (append_assoc (own_target target) (texts (target_exprs target)) (expr_if_mentions compare ++ (expr_mentions value ++ location_if_mentions original)) ∙
-      ap (λ l. own_target target ++ l) rest_text);
+  used_undeclared = own_place_if original;
+  late = list_occurrences (target_exprs target) ++ (list_occurrences (expr_if_list compare) ++ expr_occurrences value);
+  back = list_occurrences (place_if_exprs original);
+  apart = append_assoc (own_target target) (own_place_if original) (list_occurrences (target_exprs target ++ (expr_if_list compare ++ value ∷ place_if_exprs original))) ∙
+      ap (λ l. own_target target ++ (own_place_if original ++ l)) operands_occurrences_are;
+  occurrences = ap (λ l. l ++ (expr_if_occurrences compare ++ (expr_occurrences value ++ location_if_occurrences original))) (target_occurrences_are target) ∙
+      (append_assoc (own_target target) (list_occurrences (target_exprs target)) (expr_if_occurrences compare ++ (expr_occurrences value ++ location_if_occurrences original)) ∙
+      ap (λ l. own_target target ++ l) rest_occurrences_are);
 }
   where
-    operands_text : texts (target_exprs target ++ (expr_if_list compare ++ value ∷ place_if_exprs original)) ≡
-        (texts (target_exprs target) ++ (texts (expr_if_list compare) ++ expr_mentions value)) ++ texts (place_if_exprs original)
-    operands_text =
-        texts-append (target_exprs target) (expr_if_list compare ++ value ∷ place_if_exprs original) ∙
-        (ap (λ l. texts (target_exprs target) ++ l) (texts-append (expr_if_list compare) (value ∷ place_if_exprs original) ∙
-        sym (append_assoc (texts (expr_if_list compare)) (expr_mentions value) (texts (place_if_exprs original)))) ∙
-        sym (append_assoc (texts (target_exprs target)) (texts (expr_if_list compare) ++ expr_mentions value) (texts (place_if_exprs original))))
+    operands_occurrences_are : list_occurrences (target_exprs target ++ (expr_if_list compare ++ value ∷ place_if_exprs original)) ≡
+        (list_occurrences (target_exprs target) ++ (list_occurrences (expr_if_list compare) ++ expr_occurrences value)) ++ list_occurrences (place_if_exprs original)
+    operands_occurrences_are =
+        list_occurrences-append (target_exprs target) (expr_if_list compare ++ value ∷ place_if_exprs original) ∙
+        (ap (λ l. list_occurrences (target_exprs target) ++ l) (list_occurrences-append (expr_if_list compare) (value ∷ place_if_exprs original) ∙
+        sym (append_assoc (list_occurrences (expr_if_list compare)) (expr_occurrences value) (list_occurrences (place_if_exprs original)))) ∙
+        sym (append_assoc (list_occurrences (target_exprs target)) (list_occurrences (expr_if_list compare) ++ expr_occurrences value) (list_occurrences (place_if_exprs original))))
 
-    rest_text : texts (target_exprs target) ++ (expr_if_mentions compare ++ (expr_mentions value ++ location_if_mentions original)) ≡
-        (texts (target_exprs target) ++ (texts (expr_if_list compare) ++ expr_mentions value)) ++ (own_place_if original ++ texts (place_if_exprs original))
-    rest_text =
-        ap (λ l. texts (target_exprs target) ++ (l ++ (expr_mentions value ++ location_if_mentions original))) (expr_if_text compare) ∙
-        (ap (λ l. texts (target_exprs target) ++ (texts (expr_if_list compare) ++ (expr_mentions value ++ l))) (place_if_text original) ∙
-        (ap (λ l. texts (target_exprs target) ++ l) (sym (append_assoc (texts (expr_if_list compare)) (expr_mentions value) (own_place_if original ++ texts (place_if_exprs original)))) ∙
-        sym (append_assoc (texts (target_exprs target)) (texts (expr_if_list compare) ++ expr_mentions value) (own_place_if original ++ texts (place_if_exprs original)))))
+    rest_occurrences_are : list_occurrences (target_exprs target) ++ (expr_if_occurrences compare ++ (expr_occurrences value ++ location_if_occurrences original)) ≡
+        (list_occurrences (target_exprs target) ++ (list_occurrences (expr_if_list compare) ++ expr_occurrences value)) ++ (own_place_if original ++ list_occurrences (place_if_exprs original))
+    rest_occurrences_are =
+        ap (λ l. list_occurrences (target_exprs target) ++ (l ++ (expr_occurrences value ++ location_if_occurrences original))) (expr_if_occurrences_are compare) ∙
+        (ap (λ l. list_occurrences (target_exprs target) ++ (list_occurrences (expr_if_list compare) ++ (expr_occurrences value ++ l))) (place_if_occurrences_are original) ∙
+        (ap (λ l. list_occurrences (target_exprs target) ++ l) (sym (append_assoc (list_occurrences (expr_if_list compare)) (expr_occurrences value) (own_place_if original ++ list_occurrences (place_if_exprs original)))) ∙
+        sym (append_assoc (list_occurrences (target_exprs target)) (list_occurrences (expr_if_list compare) ++ expr_occurrences value) (own_place_if original ++ list_occurrences (place_if_exprs original)))))
 
 -- a test of the places and calls of a form
-pub any_form : (p : Mention → Bool) (form : Form) → is_call_form form ≡ false → PicksLiterally form → list_any p (form_mentions form) ≡ (list_any p (own_places form) || list_any p (texts (operand_exprs form)))
+pub any_form : (p : Occurrence → Bool) (form : Form) → is_call_form form ≡ false → PicksLiterally form → list_any p (form_occurrences form) ≡ (list_any p (own_places form) || list_any p (list_occurrences (operand_exprs form)))
 any_form p form plain picks =
-    let t = form_text form plain picks in
-    ap (list_any p) t.text ∙ (sym (any_moved p t.front t.early t.late t.back) ∙ (ap (list_any p) (sym t.apart) ∙ list_any-append p (own_places form) (texts (operand_exprs form))))
+    let t = form_occurrences_are form plain picks in
+    ap (list_any p) t.occurrences ∙ (sym (any_moved p t.front t.used_undeclared t.late t.back) ∙ (ap (list_any p) (sym t.apart) ∙ list_any-append p (own_places form) (list_occurrences (operand_exprs form))))
 
 -- ---- other expressions in place of the operands
 
@@ -231,7 +233,7 @@ shifted_eq a b d = by_case (cases_eq b d)
     by_case (inl is) = eq-eqb (a + b) (a + d) (ap (λ x. a + x) is) ∙ sym (eq-eqb b d is)
     by_case (inr apart) = ne_eqb (a + b) (a + d) (λ is. apart (omega (arith, is))) ∙ sym (ne_eqb b d apart)
 
-module _ (structs : List StructDef) (before : List Reached) (constants first size from : ℕ) (high : constants ≤ first) (room : first + size ≤ from) where
+module _ (structs : List StructDef) (before : List CallTree) (constants first size from : ℕ) (high : constants ≤ first) (room : first + size ≤ from) where
   -- a place, where the constants and the variables of the function are there
   pub place_touches : (place : Location) (es : List Expr) → PlaceFits size constants place → LiteralsAs (place_exprs place) es →
       Touches structs before constants first size from (own_place place) (touched (own_place (filled_place first place es))) []
@@ -278,11 +280,11 @@ module _ (structs : List StructDef) (before : List Reached) (constants first siz
     within = λ n is. absurd (false≢true is);
   }
 
--- the text of a form, from its places and its operands' texts
-pub form_touches : (structs : List StructDef) (before : List Reached) (constants first size : ℕ) (form : Form) → is_call_form form ≡ false → PicksLiterally form → (from : ℕ) (h : ℕ → Bool) (new : List Variable) →
-    Touches structs before constants first size from (own_places form ++ texts (operand_exprs form)) h new → Touches structs before constants first size from (form_mentions form) h new
+-- the occurrences in a form, from its places and those in its operands
+pub form_touches : (structs : List StructDef) (before : List CallTree) (constants first size : ℕ) (form : Form) → is_call_form form ≡ false → PicksLiterally form → (from : ℕ) (h : ℕ → Bool) (new : List Variable) →
+    Touches structs before constants first size from (own_places form ++ list_occurrences (operand_exprs form)) h new → Touches structs before constants first size from (form_occurrences form) h new
 form_touches structs before constants first size form plain picks from h new touches =
-    let t = form_text form plain picks in
-    subst (λ l. Touches structs before constants first size from l h new) (sym t.text)
-    (touches_moved structs before constants first size from t.front t.early t.late t.back h new
+    let t = form_occurrences_are form plain picks in
+    subst (λ l. Touches structs before constants first size from l h new) (sym t.occurrences)
+    (touches_moved structs before constants first size from t.front t.used_undeclared t.late t.back h new
     (subst (λ l. Touches structs before constants first size from l h new) t.apart touches))

@@ -10,28 +10,32 @@ use Rattle.hl_meaning.specs.Programs.{StructDef, Variable}
 use Rattle.hl_meaning.specs.Places.{is_literal}
 use Rattle.hl_inline.specs.FlatTrees.{FlatStmt, flat_local}
 use Rattle.hl_inline.specs.FlatViews.{flat_stmts_of}
-use Rattle.hl_inline.specs.IndexedVariables.{Mention, Reached, expr_mentions, flat_stmt_mentions, flat_stmts_mentions, form_mentions, indexes_variable}
-use Rattle.hl_inline.specs.Operands.{behind_expr_if, behind_target, expr_if_list, filled, filled_place, filled_place_if, filled_target, operand_exprs, place_exprs, place_if_exprs, target_exprs}
-use Rattle.hl_inline.specs.Flattening.{Emitter, Fresh, Instance, Valued, Values, any_calls, emit_all, is_literal_form, next_of, node, over, reading, saved, settled, token_of, unnamed, values_with}
+use Rattle.hl_inline.specs.IndexedVariables.{CallTree, indexes_variable}
+use Rattle.hl_inline.specs.Occurrences.{Occurrence, expr_occurrences, flat_stmt_occurrences, flat_stmts_occurrences, form_occurrences}
+use Rattle.hl_inline.proofs.OperandExpressions.{expr_if_list, operand_exprs, place_if_exprs}
+use Rattle.hl_inline.specs.Operands.{behind_expr_if, behind_target, filled, filled_place, filled_place_if, filled_target, place_exprs, target_exprs}
+use Rattle.hl_inline.specs.EmittedExpressions.{is_literal_form, node, over}
+use Rattle.hl_inline.specs.Emitting.{Emitter, Valued, Values, any_call, emit_all, reading, saved, settled, token_of, values_with}
+use Rattle.hl_inline.specs.Fresh.{Fresh, Instance, next_of, unnamed}
 use Rattle.hl_inline.proofs.Induction.{Every}
 use Rattle.hl_inline.proofs.OperandLemmas.{is_call_form}
 use Rattle.hl_inline.proofs.FilledLemmas.{filled_not_call, filled_operands}
 use Rattle.hl_inline.proofs.Touching.{Touches, or_both, or_four, or_false, touched, touches_both, touches_none, touches_same, touches_unnamed}
-use Rattle.hl_inline.proofs.TouchedForms.{FormFits, LiteralsAs, PicksLiterally, any_form, form_touches, literals_back, literals_front, own_place, own_place_if, own_places, own_target, place_touches, texts}
+use Rattle.hl_inline.proofs.TouchedForms.{FormFits, LiteralsAs, PicksLiterally, any_form, form_touches, list_occurrences, literals_back, literals_front, own_place, own_place_if, own_places, own_target, place_touches}
 
 -- the places and calls in code
-abbrev pub text_of : List FlatStmt → List Mention
-text_of code = flat_stmts_mentions (flat_stmts_of code)
+abbrev pub occurrences_of : List FlatStmt → List Occurrence
+occurrences_of code = flat_stmts_occurrences (flat_stmts_of code)
 
-pub text-append : (xs ys : List FlatStmt) → text_of (xs ++ ys) ≡ text_of xs ++ text_of ys
-text-append [] ys = refl
-text-append (x ∷ xs) ys = ap (λ l. flat_stmt_mentions x ++ l) (text-append xs ys) ∙ sym (append_assoc (flat_stmt_mentions x) (text_of xs) (text_of ys))
+pub occurrences-append : (xs ys : List FlatStmt) → occurrences_of (xs ++ ys) ≡ occurrences_of xs ++ occurrences_of ys
+occurrences-append [] ys = refl
+occurrences-append (x ∷ xs) ys = ap (λ l. flat_stmt_occurrences x ++ l) (occurrences-append xs ys) ∙ sym (append_assoc (flat_stmt_occurrences x) (occurrences_of xs) (occurrences_of ys))
 
-pub touched-append : (xs ys : List Mention) (n : ℕ) → touched (xs ++ ys) n ≡ (touched xs n || touched ys n)
+pub touched-append : (xs ys : List Occurrence) (n : ℕ) → touched (xs ++ ys) n ≡ (touched xs n || touched ys n)
 touched-append xs ys n = list_any-append (indexes_variable n) xs ys
 
 -- a whole variable that is read isn't indexed
-pub untouched_reading : (ty : Ty) (at number n : ℕ) → touched (expr_mentions (reading ty at number)) n ≡ false
+pub untouched_reading : (ty : Ty) (at number n : ℕ) → touched (expr_occurrences (reading ty at number)) n ≡ false
 untouched_reading ty at number n = by_test (number == n)
   where
     by_test : (b : Bool) → ((b && not true) || false) ≡ false
@@ -41,23 +45,23 @@ untouched_reading ty at number n = by_test (number == n)
 pub grown_next : (before : Fresh) (behind : Fresh) (new : List Variable) → behind.variables ≡ before.variables ++ new → next_of behind ≡ next_of before + length new
 grown_next before behind new is = ap length is ∙ length-append before.variables new
 
-module _ (structs : List StructDef) (before : List Reached) (constants first size : ℕ) where
+module _ (structs : List StructDef) (before : List CallTree) (constants first size : ℕ) where
   -- what becomes of an expression indexes what the expression does
   pub record EmittedAs (e : Expr) (fresh : Fresh) (x : Valued) : Type 0 where
     pub new : List Variable
     pub grows : x.fresh.variables ≡ fresh.variables ++ new
-    pub touches : Touches structs before constants first size (next_of fresh) (expr_mentions e) (touched (text_of x.code ++ expr_mentions x.value)) new
+    pub touches : Touches structs before constants first size (next_of fresh) (expr_occurrences e) (touched (occurrences_of x.code ++ expr_occurrences x.value)) new
     pub literal : is_literal x.value ≡ is_literal e
     pub fixed : x.fixed ≡ false → is_literal e ≡ false
 
-  abbrev pub EmitsText : Expr → Emitter → Type 0
-  EmitsText e em = (fresh : Fresh) → first + size ≤ next_of fresh → EmittedAs e fresh (em.emit fresh)
+  abbrev pub EmitsOccurrences : Expr → Emitter → Type 0
+  EmitsOccurrences e em = (fresh : Fresh) → first + size ≤ next_of fresh → EmittedAs e fresh (em.emit fresh)
 
   -- the same of expressions in order
   pub record ValuesAs (es : List Expr) (fresh : Fresh) (x : Values) : Type 0 where
     pub new : List Variable
     pub grows : x.fresh.variables ≡ fresh.variables ++ new
-    pub touches : Touches structs before constants first size (next_of fresh) (texts es) (touched (text_of x.code ++ texts x.values)) new
+    pub touches : Touches structs before constants first size (next_of fresh) (list_occurrences es) (touched (occurrences_of x.code ++ list_occurrences x.values)) new
     pub literals : LiteralsAs es x.values
     pub count : length x.values ≡ length es
 
@@ -66,18 +70,18 @@ module _ (structs : List StructDef) (before : List Reached) (constants first siz
     saved_as e fresh x room loose emitted = record {
       new = emitted.new ++ unnamed (type_of x.value) (token_of x.value) ∷ [];
       grows = ap (λ l. l ++ unnamed (type_of x.value) (token_of x.value) ∷ []) emitted.grows ∙ append_assoc fresh.variables emitted.new (unnamed (type_of x.value) (token_of x.value) ∷ []);
-      touches = touches_same structs before constants first size (next_of fresh) (expr_mentions e) _ _ _ same
-          (touches_unnamed structs before constants first size high (next_of fresh) room (expr_mentions e) _ emitted.new (unnamed (type_of x.value) (token_of x.value) ∷ []) emitted.touches);
+      touches = touches_same structs before constants first size (next_of fresh) (expr_occurrences e) _ _ _ same
+          (touches_unnamed structs before constants first size high (next_of fresh) room (expr_occurrences e) _ emitted.new (unnamed (type_of x.value) (token_of x.value) ∷ []) emitted.touches);
       literal = sym (emitted.fixed loose);
       fixed = λ is. absurd (true≢false is);
     }
       where
-        same : (n : ℕ) → touched (text_of x.code ++ expr_mentions x.value) n ≡
-            touched (text_of (x.code ++ flat_local (next_of x.fresh) (Some x.value) ∷ []) ++ expr_mentions (reading (type_of x.value) (token_of x.value) (next_of x.fresh))) n
+        same : (n : ℕ) → touched (occurrences_of x.code ++ expr_occurrences x.value) n ≡
+            touched (occurrences_of (x.code ++ flat_local (next_of x.fresh) (Some x.value) ∷ []) ++ expr_occurrences (reading (type_of x.value) (token_of x.value) (next_of x.fresh))) n
         same n = sym
-            (touched-append (text_of (x.code ++ flat_local (next_of x.fresh) (Some x.value) ∷ [])) (expr_mentions (reading (type_of x.value) (token_of x.value) (next_of x.fresh))) n ∙
+            (touched-append (occurrences_of (x.code ++ flat_local (next_of x.fresh) (Some x.value) ∷ [])) (expr_occurrences (reading (type_of x.value) (token_of x.value) (next_of x.fresh))) n ∙
             (or_false _ _ (untouched_reading (type_of x.value) (token_of x.value) (next_of x.fresh) n) ∙
-            ap (λ l. touched l n) (text-append x.code (flat_local (next_of x.fresh) (Some x.value) ∷ []) ∙ ap (λ l. text_of x.code ++ l) (append-nil (expr_mentions x.value)))))
+            ap (λ l. touched l n) (occurrences-append x.code (flat_local (next_of x.fresh) (Some x.value) ∷ []) ∙ ap (λ l. occurrences_of x.code ++ l) (append-nil (expr_occurrences x.value)))))
 
     pub settled_as : (further : Bool) (e : Expr) (fresh : Fresh) (x : Valued) → first + size ≤ next_of fresh → EmittedAs e fresh x → EmittedAs e fresh (settled further x)
     settled_as further e fresh x room emitted = by_test (further && not x.fixed) refl
@@ -94,23 +98,23 @@ module _ (structs : List StructDef) (before : List Reached) (constants first siz
     one_more e es fresh x rest room emitted others = record {
       new = emitted.new ++ others.new;
       grows = others.grows ∙ (ap (λ l. l ++ others.new) emitted.grows ∙ append_assoc fresh.variables emitted.new others.new);
-      touches = touches_same structs before constants first size (next_of fresh) (expr_mentions e ++ texts es) _ _ _ same
-          (touches_both structs before constants first size high (next_of fresh) (next_of x.fresh) room (expr_mentions e) (texts es) _ _ emitted.new others.new
+      touches = touches_same structs before constants first size (next_of fresh) (expr_occurrences e ++ list_occurrences es) _ _ _ same
+          (touches_both structs before constants first size high (next_of fresh) (next_of x.fresh) room (expr_occurrences e) (list_occurrences es) _ _ emitted.new others.new
           (grown_next fresh x.fresh emitted.new emitted.grows) emitted.touches others.touches);
       literals = (emitted.literal, others.literals);
       count = ap suc others.count;
     }
       where
-        same : (n : ℕ) → (touched (text_of x.code ++ expr_mentions x.value) n || touched (text_of rest.code ++ texts rest.values) n) ≡
-            touched (text_of (x.code ++ rest.code) ++ (expr_mentions x.value ++ texts rest.values)) n
+        same : (n : ℕ) → (touched (occurrences_of x.code ++ expr_occurrences x.value) n || touched (occurrences_of rest.code ++ list_occurrences rest.values) n) ≡
+            touched (occurrences_of (x.code ++ rest.code) ++ (expr_occurrences x.value ++ list_occurrences rest.values)) n
         same n =
-            or_both _ _ _ _ (touched-append (text_of x.code) (expr_mentions x.value) n) (touched-append (text_of rest.code) (texts rest.values) n) ∙
-            (or_four (touched (text_of x.code) n) (touched (expr_mentions x.value) n) (touched (text_of rest.code) n) (touched (texts rest.values) n) ∙
-            sym (touched-append (text_of (x.code ++ rest.code)) (expr_mentions x.value ++ texts rest.values) n ∙
-            or_both _ _ _ _ (ap (λ l. touched l n) (text-append x.code rest.code) ∙ touched-append (text_of x.code) (text_of rest.code) n) (touched-append (expr_mentions x.value) (texts rest.values) n)))
+            or_both _ _ _ _ (touched-append (occurrences_of x.code) (expr_occurrences x.value) n) (touched-append (occurrences_of rest.code) (list_occurrences rest.values) n) ∙
+            (or_four (touched (occurrences_of x.code) n) (touched (expr_occurrences x.value) n) (touched (occurrences_of rest.code) n) (touched (list_occurrences rest.values) n) ∙
+            sym (touched-append (occurrences_of (x.code ++ rest.code)) (expr_occurrences x.value ++ list_occurrences rest.values) n ∙
+            or_both _ _ _ _ (ap (λ l. touched l n) (occurrences-append x.code rest.code) ∙ touched-append (occurrences_of x.code) (occurrences_of rest.code) n) (touched-append (expr_occurrences x.value) (list_occurrences rest.values) n)))
 
     -- operands in order
-    pub all_as : (em : Expr → Emitter) (further : Bool) (es : List Expr) → Every (λ e. EmitsText e (em e)) es → (fresh : Fresh) → first + size ≤ next_of fresh →
+    pub all_as : (em : Expr → Emitter) (further : Bool) (es : List Expr) → Every (λ e. EmitsOccurrences e (em e)) es → (fresh : Fresh) → first + size ≤ next_of fresh →
         ValuesAs es fresh (emit_all further (map em es) fresh)
     all_as em further [] emits fresh room = record {
       new = [];
@@ -123,10 +127,10 @@ module _ (structs : List StructDef) (before : List Reached) (constants first siz
         one_more e es fresh x (emit_all further (map em es) x.fresh) room emitted (all_as em further es emits.1 x.fresh (omega (arith, room, grown_next fresh x.fresh emitted.new emitted.grows)))
       where
         x : Valued
-        x = settled (further || any_calls (map em es)) ((em e).emit fresh)
+        x = settled (further || any_call (map em es)) ((em e).emit fresh)
 
         emitted : EmittedAs e fresh x
-        emitted = settled_as (further || any_calls (map em es)) e fresh ((em e).emit fresh) room (emits.0 fresh room)
+        emitted = settled_as (further || any_call (map em es)) e fresh ((em e).emit fresh) room (emits.0 fresh room)
 
     -- ---- an expression that isn't a call
 
@@ -230,7 +234,7 @@ module _ (structs : List StructDef) (before : List Reached) (constants first siz
     over_as i is ty at form plain picks fits fresh room x values = record {
       new = values.new;
       grows = values.grows;
-      touches = touches_same structs before constants first size (next_of fresh) (form_mentions form) _ _ _ same
+      touches = touches_same structs before constants first size (next_of fresh) (form_occurrences form) _ _ _ same
           (form_touches structs before constants first size form plain picks (next_of fresh) _ values.new
           (touches_both structs before constants first size high (next_of fresh) (next_of fresh) room (own_places form) _ _ _ [] values.new (omega arith)
           (own_touches (next_of fresh) room form x.values fits values.literals) values.touches));
@@ -238,17 +242,17 @@ module _ (structs : List StructDef) (before : List Reached) (constants first siz
       fixed = λ loose. literal_form_is ty at form ∙ loose;
     }
       where
-        same : (n : ℕ) → (touched (own_places (filled first form x.values)) n || touched (text_of x.code ++ texts x.values) n) ≡
-            touched (text_of x.code ++ form_mentions (filled i.first form x.values)) n
+        same : (n : ℕ) → (touched (own_places (filled first form x.values)) n || touched (occurrences_of x.code ++ list_occurrences x.values) n) ≡
+            touched (occurrences_of x.code ++ form_occurrences (filled i.first form x.values)) n
         same n =
-            ap (λ b. touched (own_places (filled first form x.values)) n || b) (touched-append (text_of x.code) (texts x.values) n) ∙
-            (or_swapped (touched (own_places (filled first form x.values)) n) (touched (text_of x.code) n) (touched (texts x.values) n) ∙
-            sym (touched-append (text_of x.code) (form_mentions (filled i.first form x.values)) n ∙
-            ap (λ b. touched (text_of x.code) n || b) (ap (λ k. touched (form_mentions (filled k form x.values)) n) is ∙
+            ap (λ b. touched (own_places (filled first form x.values)) n || b) (touched-append (occurrences_of x.code) (list_occurrences x.values) n) ∙
+            (or_swapped (touched (own_places (filled first form x.values)) n) (touched (occurrences_of x.code) n) (touched (list_occurrences x.values) n) ∙
+            sym (touched-append (occurrences_of x.code) (form_occurrences (filled i.first form x.values)) n ∙
+            ap (λ b. touched (occurrences_of x.code) n || b) (ap (λ k. touched (form_occurrences (filled k form x.values)) n) is ∙
             (any_form (indexes_variable n) (filled first form x.values) (filled_not_call first form x.values plain) (picks_filled form x.values picks) ∙
-            ap (λ l. touched (own_places (filled first form x.values)) n || touched (texts l) n) (filled_operands first form x.values plain values.count)))))
+            ap (λ l. touched (own_places (filled first form x.values)) n || touched (list_occurrences l) n) (filled_operands first form x.values plain values.count)))))
 
     pub node_as : (i : Instance) → i.first ≡ first → (ty : Ty) (at : ℕ) (form : Form) (em : Expr → Emitter) → is_call_form form ≡ false → PicksLiterally form → FormFits size constants form →
-        Every (λ e. EmitsText e (em e)) (operand_exprs form) → EmitsText (an_expr ty at form) (node i ty at form (map em (operand_exprs form)))
+        Every (λ e. EmitsOccurrences e (em e)) (operand_exprs form) → EmitsOccurrences (an_expr ty at form) (node i ty at form (map em (operand_exprs form)))
     node_as i is ty at form em plain picks fits emits fresh room =
         over_as i is ty at form plain picks fits fresh room (emit_all false (map em (operand_exprs form)) fresh) (all_as em false (operand_exprs form) emits fresh room)

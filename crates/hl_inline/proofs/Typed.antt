@@ -21,7 +21,8 @@ use Rattle.hl_meaning.specs.Trees.{Arg, Args, Expr, Exprs, Form, Location, Maybe
 use Rattle.hl_meaning.specs.Programs.{StructDef, Variable}
 use Rattle.hl_meaning.specs.Places.{Scope, is_end, is_longer_swizzle, path_type, variable_type}
 use Rattle.hl_meaning.specs.WellFormed.{AreExprs, AreParts, ArePassed, Assigns, Builds, IsCompared, IsDeclared, IsExpr, IsForm, IsMethod, IsOriginal, IsPassed, IsPlace, IsTarget, IsWord, Param, callee_params, param_of}
-use Rattle.hl_inline.specs.Operands.{arg_exprs, args_exprs, expr_if_list, exprs_list, operand_exprs, parts_exprs, place_exprs, place_if_exprs, target_exprs}
+use Rattle.hl_inline.proofs.OperandExpressions.{arg_exprs, args_exprs, expr_if_list, exprs_list, operand_exprs, place_if_exprs}
+use Rattle.hl_inline.specs.Operands.{parts_exprs, place_exprs, target_exprs}
 use Rattle.hl_inline.proofs.Induction.{Every, every_append}
 
 -- what isn't true holds nowhere

@@ -8,11 +8,12 @@ use Rattle.hl_meaning.specs.Trees.{more_parts, no_parts}
 use Rattle.hl_meaning.specs.Views.{exprs_of, parts_of, plain_expr, plain_exprs, plain_part, plain_parts}
 use Rattle.hl_inline.specs.FlatTrees.{FlatStmt}
 use Rattle.hl_inline.specs.Operands.{filled_parts}
-use Rattle.hl_inline.specs.Flattening.{Emitter, Fresh, Inlined, Instance, any_calls, emit_all, emitted, emitter, exprs_emitters, part_emitters, parts_emitters, settled}
-use Rattle.hl_inline.specs.Building.{Made, expr_calls, filled_part, last_true, made, made_behind, operand_behind, part_calls}
+use Rattle.hl_inline.specs.EmittedExpressions.{emitted, emitter, exprs_emitters, part_emitters, parts_emitters}
+use Rattle.hl_inline.specs.Emitting.{Emitter, any_call, emit_all, settled}
+use Rattle.hl_inline.specs.Fresh.{Fresh, Instance}
+use Rattle.hl_inline.specs.InlinedCalls.{Inlined}
+use Rattle.hl_inline.specs.Building.{Made, filled_part, made, made_behind, operand_behind}
 use Rattle.hl_inline.proofs.BuildingLemmas.{map_made, next_operand, no_operand, none, values_behind, values_of, with_operand}
-use Rattle.hl_inline.proofs.Flags.{any-append}
-use Rattle.hl_inline.proofs.LastLemmas.{any_behind, any_true}
 use Rattle.hl_inline.proofs.EmittingLemmas.{parts_done}
 
 -- lists
@@ -24,11 +25,6 @@ drop_item (y ∷ xs) (suc j) x h is = drop_item xs j x (omega arith) is ∙ ap (
   where
     same_suc : (j : ℕ) → suc (j + 1) ≡ suc j + 1
     same_suc j = omega arith
-
-drop_map : {A B : Type 0} (f : A → B) (n : ℕ) (xs : List A) → map f (drop n xs) ≡ drop n (map f xs)
-drop_map f zero xs = refl
-drop_map f (suc n) [] = refl
-drop_map f (suc n) (x ∷ xs) = drop_map f n xs
 
 pub drop_end : {A : Type 0} (xs : List A) (j : ℕ) → length xs ≤ j → drop j xs ≡ []
 drop_end [] zero h = refl
@@ -45,21 +41,13 @@ pub exprs_held : (k : List Inlined) (i : Instance) (es : List Expr) → exprs_em
 exprs_held k i [] = refl
 exprs_held k i (e ∷ es) = ap (λ l. em k i e ∷ l) (exprs_held k i es)
 
-pub exprs_any : (k : List Inlined) (i : Instance) (es : List Expr) → any_calls (map (em k i) es) ≡ any_true (map (expr_calls k i) es)
-exprs_any k i [] = refl
-exprs_any k i (e ∷ es) = ap (λ b. (em k i e).calls || b) (exprs_any k i es)
-
-exprs_flag : (k : List Inlined) (i : Instance) (last : ℕ) (xs : List Expr) (j : ℕ) → last ≡ last_true (map (expr_calls k i) xs) → ltb j last ≡ any_calls (map (em k i) (drop j xs))
-exprs_flag k i last xs j is =
-    ap (ltb j) is ∙ (sym (any_behind j (map (expr_calls k i) xs)) ∙ (sym (ap any_true (drop_map (expr_calls k i) j xs)) ∙ sym (exprs_any k i (drop j xs))))
-
-pub exprs_next : (k : List Inlined) (i : Instance) (last : ℕ) (xs : List Expr) (j : ℕ) (x : Expr) (code : List FlatStmt) (values : List plain.Expr) (fresh : Fresh) (o : Made plain.Expr) →
-    j < length xs → x ≡ get_or xs j x → last ≡ last_true (map (expr_calls k i) xs) →
-    operand_behind code (settled (ltb (j + 1) last) (emitted k i (plain_expr x) fresh)) ≡ o →
+pub exprs_next : (k : List Inlined) (i : Instance) (f : Bool) (xs : List Expr) (j : ℕ) (x : Expr) (code : List FlatStmt) (values : List plain.Expr) (fresh : Fresh) (o : Made plain.Expr) →
+    j < length xs → x ≡ get_or xs j x → f ≡ any_call (exprs_emitters k i (plain_exprs (drop (j + 1) xs))) →
+    operand_behind code (settled f (emitted k i (plain_expr x) fresh)) ≡ o →
     values_behind code values (emit_all false (map (em k i) (drop j xs)) fresh) ≡ with_operand values (emit_all false (map (em k i) (drop (j + 1) xs))) o
-exprs_next k i last xs j x code values fresh o within is last_is done =
+exprs_next k i f xs j x code values fresh o within is f_is done =
     ap (λ l. values_behind code values (emit_all false (map (em k i) l) fresh)) (drop_item xs j x within is) ∙
-    next_operand false (ltb (j + 1) last) (em k i x) (map (em k i) (drop (j + 1) xs)) code values fresh o (exprs_flag k i last xs (j + 1) last_is) done
+    next_operand false f (em k i x) (map (em k i) (drop (j + 1) xs)) code values fresh o (f_is ∙ ap any_call (exprs_held k i (drop (j + 1) xs))) done
 
 pub exprs_end : (k : List Inlined) (i : Instance) (xs : List Expr) (j : ℕ) (code : List FlatStmt) (values : List plain.Expr) (fresh : Fresh) → length xs ≤ j →
     values_behind code values (emit_all false (map (em k i) (drop j xs)) fresh) ≡ values_of code values fresh
@@ -80,27 +68,19 @@ pub front_end : (parts : List plain.PathPart) → front_parts parts no_parts ≡
 front_end [] = refl
 front_end (first ∷ parts) = ap (more_parts first) (front_end parts)
 
-pub parts_any : (k : List Inlined) (i : Instance) (ps : List PathPart) → any_calls (parts_emitters k i (plain_parts ps)) ≡ any_true (map (part_calls k i) ps)
-parts_any k i [] = refl
-parts_any k i (p ∷ ps) = any-append (part_emitters k i (plain_part p)) (parts_emitters k i (plain_parts ps)) ∙ ap (λ b. part_calls k i p || b) (parts_any k i ps)
-
-pub parts_flag : (k : List Inlined) (i : Instance) (last : ℕ) (xs : List PathPart) (j : ℕ) → last ≡ last_true (map (part_calls k i) xs) → ltb j last ≡ any_calls (parts_emitters k i (plain_parts (drop j xs)))
-parts_flag k i last xs j is =
-    ap (ltb j) is ∙ (sym (any_behind j (map (part_calls k i) xs)) ∙ (sym (ap any_true (drop_map (part_calls k i) j xs)) ∙ sym (parts_any k i (drop j xs))))
-
 -- what is emitted for the steps that are left, in front of which some stand
 abbrev pub parts_left : List Inlined → Instance → (further : Bool) → List FlatStmt → List plain.PathPart → List PathPart → Fresh → Made plain.PathParts
 parts_left k i further code parts left fresh =
     map_made (front_parts parts) (made_behind code (filled_parts (plain_parts left)) (emit_all further (parts_emitters k i (plain_parts left)) fresh))
 
-pub parts_next : (k : List Inlined) (i : Instance) (further f : Bool) (last : ℕ) (xs : List PathPart) (j : ℕ) (x : PathPart) (code : List FlatStmt) (parts : List plain.PathPart) (fresh : Fresh) (a : Made plain.PathPart) →
-    j < length xs → x ≡ get_or xs j x → last ≡ last_true (map (part_calls k i) xs) → f ≡ (further || ltb (j + 1) last) →
+pub parts_next : (k : List Inlined) (i : Instance) (further f : Bool) (xs : List PathPart) (j : ℕ) (x : PathPart) (code : List FlatStmt) (parts : List plain.PathPart) (fresh : Fresh) (a : Made plain.PathPart) →
+    j < length xs → x ≡ get_or xs j x → f ≡ (further || any_call (parts_emitters k i (plain_parts (drop (j + 1) xs)))) →
     made_behind code (filled_part (plain_part x)) (emit_all f (part_emitters k i (plain_part x)) fresh) ≡ a →
     parts_left k i further code parts (drop j xs) fresh ≡ parts_left k i further a.code (parts ++ a.value ∷ []) (drop (j + 1) xs) a.fresh
-parts_next k i further f last xs j x code parts fresh a within is last_is f_is done =
+parts_next k i further f xs j x code parts fresh a within is f_is done =
     ap (λ l. parts_left k i further code parts l fresh) (drop_item xs j x within is) ∙
     (ap (map_made (front_parts parts)) (parts_done k i code fresh further f (plain_part x) (plain_parts (drop (j + 1) xs)) a
-    (f_is ∙ ap (λ b. further || b) (parts_flag k i last xs (j + 1) last_is)) done) ∙
+    f_is done) ∙
     ap (λ v. made m.code v m.fresh) (sym (front_more parts a.value m.value)))
   where
     m : Made plain.PathParts

@@ -14,11 +14,13 @@ use Rattle.hl_meaning.specs.WellFormed.{IsConstant, IsEntry, IsEntryIf, IsInput,
 use Rattle.hl_source.specs.State.{Callee, Context, Progress, State, ends_at, goes_with, variable_words}
 use Rattle.hl_source.specs.Memory.{constant_words}
 use Rattle.hl_source.specs.Expressions.{no_callee}
-use Rattle.hl_source.specs.SourceLane.{callees_after, context_of, ended, entry_of, input_words, inputs, source_lane}
+use Rattle.hl_source.specs.SourceLane.{callees_after, context_of, entry_of, entry_run, input_words, inputs, source_lane}
 use Rattle.hl_inline.specs.FlatTrees.{Flat, FlatStmt}
 use Rattle.hl_inline.specs.FlatLane.{FlatLeaving, flat_context, flat_end, flat_ended, flat_first_state, flat_lane}
-use Rattle.hl_inline.specs.Flattening.{Fresh, Inlined, Instance, entry_body, entry_fresh, entry_instance, flat_around, flattened, inlined_after, inlined_at, set_constants, set_inputs}
-use Rattle.hl_inline.specs.Flattening as flat
+use Rattle.hl_inline.specs.Fresh.{Fresh, Instance}
+use Rattle.hl_inline.specs.InlinedCalls.{Inlined, inlined_at}
+use Rattle.hl_inline.specs.InlinedFunctions.{inlined_after}
+use Rattle.hl_inline.specs.InlinedPrograms.{entry_body, entry_fresh, entry_instance, flat_around, inlined_entry, inlined_program, set_constants, set_inputs}
 use Rattle.hl_inline.proofs.Induction.{Every, every_from_all}
 use Rattle.hl_inline.proofs.Relation.{sizes_at, sizes_in}
 use Rattle.hl_inline.proofs.Performing.{Runs, perform, perform_next}
@@ -27,7 +29,7 @@ use Rattle.hl_inline.proofs.Calls.{BeginsAs, EndsAs, InstanceIn, body_code}
 use Rattle.hl_inline.proofs.FirstStates.{held_from, nothing_more, zero_plus, zeros_sizes}
 use Rattle.hl_inline.proofs.Beginnings.{AreWords, constants_are, constants_get, constants_run, constants_words, inputs_are, inputs_run, inputs_words, written, written_at, written_below, written_exchange, written_sizes}
 use Rattle.hl_inline.proofs.Functions.{FunctionAs, functions_as, functions_at}
-use Rattle.hl_inline.proofs.Fronts.{IsFront, front_refl, type_behind, type_front}
+use Rattle.hl_inline.proofs.Fronts.{IsFront, front_refl, nameless_type, type_behind, type_front}
 
 -- the type of a constant's variable
 constant_variable : (constants : List Constant) (k : ℕ) (ty : Ty) → option_map (λ d. d.variable.ty) (slice_get constants k) ≡ Some ty → variable_type (map (λ c. c.variable) constants) k ≡ Some ty
@@ -38,13 +40,13 @@ constant_variable (c ∷ constants) (suc k) ty e = constant_variable constants k
 -- the entry of a program in place, where the program's functions are shown
 module _ (p : Program) (well : IsWellFormed p) (lane : Lane) (n : ℕ) (replies : List Reply) (d : FunctionDef) (there : slice_get p.functions p.entry ≡ Some d) (is_entry : IsEntry d) where
   abbrev g : Inlined
-  g = flat.entry_of p
+  g = inlined_entry p
 
   abbrev made : Flat
-  made = flat_around p (flat.entry_of p) (entry_body p (flat.entry_of p))
+  made = flat_around p (inlined_entry p) (entry_body p (inlined_entry p))
 
   abbrev all_variables : List Variable
-  all_variables = (entry_body p (flat.entry_of p)).fresh.variables
+  all_variables = (entry_body p (inlined_entry p)).fresh.variables
 
   -- what is known in the entry
   abbrev known : Context
@@ -119,7 +121,7 @@ module _ (p : Program) (well : IsWellFormed p) (lane : Lane) (n : ℕ) (replies 
   are_constants = constants_are known all_variables 0 p.constants constants_hold (λ k ty e. subst (λ m. variable_type all_variables m ≡ Some ty) (sym (zero_plus k)) (constant_typed k ty e))
 
   typed_inputs : (v : ℕ) (ty : Ty) → variable_type d.variables v ≡ Some ty → variable_type all_variables (length p.constants + v) ≡ Some ty
-  typed_inputs v ty e = own_typed v ty (ap (λ l. variable_type l v) shown.variables ∙ e)
+  typed_inputs v ty e = own_typed v ty (ap (λ l. variable_type l v) shown.variables ∙ (nameless_type d.variables v ∙ e))
 
   are_inputs : AreWords known all_variables (length p.constants + 0) (inputs_words p lane d.variables d.parameters)
   are_inputs = inputs_are p lane d.variables all_variables (length p.constants) typed_inputs known 0 d.parameters shown.is.numbered inputs_hold
@@ -168,20 +170,20 @@ module _ (p : Program) (well : IsWellFormed p) (lane : Lane) (n : ℕ) (replies 
       perform_next made lane n (set_constants p.structs 0 p.constants) (set_inputs (length p.constants) g.parameters ++ body) first with_constants (constants_run made lane n p.structs 0 p.constants first constants_hold) ∙
       perform_next made lane n (set_inputs (length p.constants) g.parameters) body with_constants with_inputs inputs_done
 
-  same_run : (q : Progress (List ℕ)) (r : Progress FlatLeaving) → Runs (EndsAs (context_of p lane [] d) all_variables (entry_instance p g) g (length g.variables) (length (map (λ c. c.variable) p.constants ++ g.variables)) with_inputs) q r → flat_ended r ≡ ended q
+  same_run : (q : Progress (List ℕ)) (r : Progress FlatLeaving) → Runs (EndsAs (context_of p lane [] d) all_variables (entry_instance p g) g (length g.variables) (length (map (λ c. c.variable) p.constants ++ g.variables)) with_inputs) q r → flat_ended r ≡ entry_run q
   same_run (goes_with value s) r (u, e, ends) = ap flat_ended e ∙ ap (λ x. standing x Ended) (sym ends.exchange)
   same_run (ends_at run) r e = ap flat_ended e
 
   pub entry_same : flat_ended (perform made lane n (set_constants p.structs 0 p.constants ++ (set_inputs (length p.constants) g.parameters ++ body)) first) ≡
-      ended (entry_of p lane n (inputs_words p lane d.variables d.parameters) (first_exchange replies))
+      entry_run (entry_of p lane n (inputs_words p lane d.variables d.parameters) (first_exchange replies))
   entry_same = ap flat_ended whole ∙ same_run (entry_of p lane n (inputs_words p lane d.variables d.parameters) (first_exchange replies)) (perform made lane n body with_inputs) runs
 
-pub keeps_meaning : (p : Program) → IsWellFormed p → (n : ℕ) (lane : Lane) (replies : List Reply) → flat_lane (flattened p) n lane replies ≡ source_lane p n lane replies
-unfolding flattened flat_lane source_lane
+pub keeps_meaning : (p : Program) → IsWellFormed p → (n : ℕ) (lane : Lane) (replies : List Reply) → flat_lane (inlined_program p) n lane replies ≡ source_lane p n lane replies
+unfolding inlined_program flat_lane source_lane
 keeps_meaning p well n lane replies = by_entry (slice_get p.functions p.entry) refl well.entry
   where
-    by_entry : (o : Option FunctionDef) → slice_get p.functions p.entry ≡ o → IsEntryIf o → flat_lane (flattened p) n lane replies ≡ source_lane p n lane replies
+    by_entry : (o : Option FunctionDef) → slice_get p.functions p.entry ≡ o → IsEntryIf o → flat_lane (inlined_program p) n lane replies ≡ source_lane p n lane replies
     by_entry None there h = absurd h
     by_entry (Some d) there h =
         ap Some (entry_same p well lane n replies d there h) ∙
-        ap (λ o. Some (ended (entry_of p lane n (inputs p lane o) (first_exchange replies)))) (sym there)
+        ap (λ o. Some (entry_run (entry_of p lane n (inputs p lane o) (first_exchange replies)))) (sym there)

@@ -4,7 +4,8 @@ use Rattle.hl_meaning.specs.Programs.{FunctionDef, Program}
 use Rattle.hl_inline.specs.declared.inlining.Parts.{Parts}
 use Rattle.hl_inline.specs.FlatTrees as plain
 use Rattle.hl_inline.specs.FlatViews.{flat_of}
-use Rattle.hl_inline.specs.Flattening.{Fresh, Instance, next_of, set_constants, set_inputs}
+use Rattle.hl_inline.specs.Fresh.{Fresh, Instance, next_of}
+use Rattle.hl_inline.specs.InlinedPrograms.{set_constants, set_inputs}
 
 -- the constants and the inputs are set first
 abbrev pub entry_before : Program → FunctionDef → List plain.FlatStmt

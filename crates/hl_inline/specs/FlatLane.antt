@@ -11,7 +11,7 @@ use Rattle.hl_source.specs.State.{Context, Progress, State, after, ends_at, goes
 use Rattle.hl_source.specs.Memory.{zeros_of}
 use Rattle.hl_source.specs.Expressions.{evaluates}
 use Rattle.hl_source.specs.Statements.{condition, declares}
-use Rattle.hl_source.specs.SourceLane.{grid_of, semantic_components}
+use Rattle.hl_source.specs.SourceLane.{coordinates_of, semantic_components}
 use Rattle.hl_inline.specs.FlatTrees.{Flat, FlatStmt, FlatStmts, MaybeFlatStmt, flat_block, flat_if, flat_input, flat_leave, flat_local, flat_loop, flat_named, flat_run, more_flat_stmts, no_flat_stmt, no_flat_stmts, some_flat_stmt}
 use Rattle.hl_inline.specs.FlatWellFormed.{flat_scope}
 
@@ -51,7 +51,7 @@ flat_choice goes_on consequent alternative s = (if goes_on then consequent else 
 abbrev pub input_value : Flat → Lane → (variable : ℕ) → Semantic → List ℕ
 input_value f lane variable semantic =
     take (component_count (unwrap_or (variable_type f.variables variable) void_type))
-    (map wrapped (semantic_components (grid_of f.threads) lane (Some semantic)))
+    (map wrapped (semantic_components (coordinates_of f.threads) lane (Some semantic)))
 
 abbrev pub flat_context : Flat → Lane → Context
 flat_context f lane = record { scope = flat_scope f; slots = slots_of f.resources; callees = []; lane = lane }

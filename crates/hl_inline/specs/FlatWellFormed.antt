@@ -1,13 +1,14 @@
 -- What every program without calls keeps: all numbers name what is there, and each node has the type that its place
 -- needs, as in a program.
-use Rattle.std.specs.Prelude.{◌≡◌, ℕ, ◌==◌, ◌≤◌, not, Bool, List, [], ◌∷◌, ◌++◌, map, IsTrue, Some, slice_get}
-use Rattle.std.specs.List.{All, list_any}
+use Rattle.std.specs.Prelude.{◌≡◌, ℕ, ◌≤◌, not, List, [], ◌∷◌, ◌++◌, map, IsTrue, Some, slice_get}
+use Rattle.std.specs.List.{All}
 use Rattle.hl_meaning.specs.declared.program.Semantic.{Semantic}
 use Rattle.hl_meaning.specs.Types.{void_type}
 use Rattle.hl_meaning.specs.Programs.{StructDef}
 use Rattle.hl_meaning.specs.Places.{Scope, is_without_repeats, variable_type}
 use Rattle.hl_meaning.specs.Sums.{variable_words}
 use Rattle.hl_meaning.specs.WellFormed.{AreThreads, HasSemanticIf, IsCondition, IsDeclared, IsExpr, IsLocal, IsResource, IsStruct, semantic_number}
+use Rattle.hl_meaning.specs.Operators.{is_among}
 use Rattle.hl_inline.specs.FlatTrees.{Flat, FlatStmt, FlatStmts, MaybeFlatStmt, flat_block, flat_if, flat_input, flat_leave, flat_local, flat_loop, flat_named, flat_run, more_flat_stmts, no_flat_stmt, no_flat_stmts, some_flat_stmt}
 
 -- what can be named: no functions and no constants
@@ -22,10 +23,6 @@ flat_scope f = record {
   result = void_type;
 }
 
--- whether a name is among some
-abbrev pub is_named : (names : List ℕ) → ℕ → Bool
-is_named names name = list_any (λ n. name == n) names
-
 abbrev mutual
   -- A statement inside the `Named` of some names. A `Leave` has one of them, and a `Named` another than these.
   pub IsFlatStmt : Scope → (names : List ℕ) → FlatStmt → Type 0
@@ -36,8 +33,8 @@ abbrev mutual
   IsFlatStmt s names (flat_if cond consequent alternative) =
       IsCondition s cond × IsFlatStmt s names consequent × IsFlatStmtIf s names alternative
   IsFlatStmt s names (flat_loop body) = IsFlatStmt s names body
-  IsFlatStmt s names (flat_named name body) = IsTrue (not (is_named names name)) × IsFlatStmt s (name ∷ names) body
-  IsFlatStmt s names (flat_leave name) = IsTrue (is_named names name)
+  IsFlatStmt s names (flat_named name body) = IsTrue (not (is_among names name)) × IsFlatStmt s (name ∷ names) body
+  IsFlatStmt s names (flat_leave name) = IsTrue (is_among names name)
 
   pub AreFlatStmts : Scope → List ℕ → FlatStmts → Type 0
   AreFlatStmts s names no_flat_stmts = Unit {0}

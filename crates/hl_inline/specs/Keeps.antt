@@ -12,7 +12,7 @@ use Rattle.hl_inline.specs.FlatTrees.{Flat}
 use Rattle.hl_inline.specs.FlatWellFormed.{IsFlat, most_shared_words}
 use Rattle.hl_inline.specs.FlatLane.{flat_lane}
 use Rattle.hl_inline.specs.IndexedVariables.{flat_indexed_lengths, indexed_lengths}
-use Rattle.hl_inline.specs.Flattening.{flattened}
+use Rattle.hl_inline.specs.InlinedPrograms.{inlined_program}
 
 -- Its structs, buffers, groupshared variables and threads are the program's. Each lane has the same run, with the same
 -- bound on the turns of loops and the same replies. The variables that are indexed by expressions that aren't literals
@@ -26,13 +26,13 @@ pub record Keeps (p : Program) (f : Flat) : Type 0 where
   pub lengths : ∥ IsPermutation (flat_indexed_lengths f) (indexed_lengths p) ∥₁
 
 -- what each program that is well formed becomes keeps all this
-abbrev pub FlattenedKeeps : Type 0
-FlattenedKeeps = (p : Program) → ∥ IsWellFormed p ∥₁ → Keeps p (flattened p)
+abbrev pub InlinedKeeps : Type 0
+InlinedKeeps = (p : Program) → ∥ IsWellFormed p ∥₁ → Keeps p (inlined_program p)
 
 -- then both have the same lanes
 abbrev pub KeptIsSameLane : Type 0
 KeptIsSameLane = (p : Program) (f : Flat) → Keeps p f → SameLane (source_lane p) (flat_lane f)
 
 -- It is well formed, as the program is, where its groupshared variables have few enough words. A program may have more.
-abbrev pub FlattenedIsFlat : Type 0
-FlattenedIsFlat = (p : Program) → ∥ IsWellFormed p ∥₁ → variable_words p.structs p.shared ≤ most_shared_words → ∥ IsFlat (flattened p) ∥₁
+abbrev pub InlinedIsFlat : Type 0
+InlinedIsFlat = (p : Program) → ∥ IsWellFormed p ∥₁ → variable_words p.structs p.shared ≤ most_shared_words → ∥ IsFlat (inlined_program p) ∥₁

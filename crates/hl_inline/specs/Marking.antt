@@ -1,10 +1,10 @@
--- The variables that are reached early, as they are found: how often each variable is declared around a statement, and
--- marks of those that are reached before.
+-- The variables that are used before their declaration, as they are found: how often each variable is declared around
+-- a statement, and marks of those that are used before.
 use Rattle.std.specs.Prelude.{ℕ, suc, ◌==◌, Bool, true, false, if◌then◌else◌, List, [], ◌∷◌, filter, get_or, length, map, set, Option, None, Some}
 use Rattle.std.specs.List.{range_with_len}
 use Rattle.hl_meaning.specs.Trees.{Stmt, local_stmt, variable_root}
-use Rattle.hl_inline.specs.declared.early.Reached.{Reached}
-use Rattle.hl_inline.specs.IndexedVariables.{Mention, place_mention}
+use Rattle.hl_inline.specs.declared.undeclared_uses.Usage.{Usage}
+use Rattle.hl_inline.specs.Occurrences.{Occurrence, place_occurrence}
 
 -- how often a variable is declared
 abbrev pub declarations : (declared : List ℕ) → (number : ℕ) → ℕ
@@ -28,14 +28,14 @@ mark number marks = set marks number true
 abbrev pub mark_free : (counts : List ℕ) → (number : ℕ) → List Bool → List Bool
 mark_free counts number marks = if get_or counts number 1 == 0 then mark number marks else marks
 
-abbrev pub mark_mention : (counts : List ℕ) → Mention → List Bool → List Bool
-mark_mention counts (place_mention (variable_root number) parts) marks = mark_free counts number marks
-mark_mention counts _ marks = marks
+abbrev pub mark_occurrence : (counts : List ℕ) → Occurrence → List Bool → List Bool
+mark_occurrence counts (place_occurrence (variable_root number) parts) marks = mark_free counts number marks
+mark_occurrence counts _ marks = marks
 
--- the variables of a text that aren't declared
-abbrev pub mark_text : (counts : List ℕ) → List Mention → List Bool → List Bool
-mark_text counts [] marks = marks
-mark_text counts (m ∷ text) marks = mark_text counts text (mark_mention counts m marks)
+-- the variables among occurrences that aren't declared
+abbrev pub mark_occurrences : (counts : List ℕ) → List Occurrence → List Bool → List Bool
+mark_occurrences counts [] marks = marks
+mark_occurrences counts (m ∷ occurrences) marks = mark_occurrences counts occurrences (mark_occurrence counts m marks)
 
 abbrev pub mark_all : List ℕ → List Bool → List Bool
 mark_all [] marks = marks
@@ -50,8 +50,8 @@ pub record Marking : Type 0 where
   pub counts : List ℕ
   pub marks : List Bool
 
-abbrev pub plain_reached : Reached → Marking
-plain_reached r = record { counts = r.declared.items; marks = r.early.items }
+abbrev pub plain_usage : Usage → Marking
+plain_usage r = record { counts = r.declared.items; marks = r.used_undeclared.items }
 
 -- where these variables are declared
 abbrev pub marking : (declared : List ℕ) → (marks : List Bool) → Marking

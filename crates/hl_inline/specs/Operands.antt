@@ -1,17 +1,8 @@
 -- The operands of a form of expression, and the form with others in their place.
 use Rattle.std.specs.Prelude.{ℕ, ◌+◌, List, [], ◌∷◌, ◌++◌, drop, length}
 use Rattle.hl_meaning.specs.Types.{void_type}
-use Rattle.hl_meaning.specs.Trees.{Arg, Args, Expr, Exprs, Form, Location, MaybeExpr, MaybeLocation, PathParts, Root, Target, a_location, an_expr, atomic_form, binary_form, build_form, bytes_target, call_form, choose_form, constant_root, convert_form, element_root, index_part, intrinsic_form, literal_form, member_part, method_form, more_args, more_exprs, more_parts, no_args, no_expr, no_exprs, no_location, no_parts, pick_form, place_arg, place_target, read_form, shared_root, some_expr, some_location, swizzle_part, unary_form, value_arg, variable_root, write_form}
+use Rattle.hl_meaning.specs.Trees.{Expr, Form, Location, MaybeExpr, MaybeLocation, PathParts, Root, Target, a_location, an_expr, atomic_form, binary_form, build_form, bytes_target, call_form, choose_form, constant_root, convert_form, element_root, index_part, intrinsic_form, literal_form, member_part, method_form, more_parts, no_expr, no_location, no_parts, pick_form, place_target, read_form, shared_root, some_expr, some_location, swizzle_part, unary_form, variable_root, write_form}
 use Rattle.hl_meaning.specs.Views.{exprs_of}
-
--- the expressions of a list
-abbrev pub exprs_list : Exprs → List Expr
-exprs_list no_exprs = []
-exprs_list (more_exprs first rest) = first ∷ exprs_list rest
-
-abbrev pub expr_if_list : MaybeExpr → List Expr
-expr_if_list no_expr = []
-expr_if_list (some_expr value) = value ∷ []
 
 -- the indexes of a place, in order
 
@@ -27,39 +18,9 @@ parts_exprs (more_parts part rest) = parts_exprs rest
 abbrev pub place_exprs : Location → List Expr
 place_exprs (a_location ty root parts) = root_exprs root ++ parts_exprs parts
 
-abbrev pub place_if_exprs : MaybeLocation → List Expr
-place_if_exprs no_location = []
-place_if_exprs (some_location place) = place_exprs place
-
 abbrev pub target_exprs : Target → List Expr
 target_exprs (place_target place) = place_exprs place
 target_exprs (bytes_target resource address) = address ∷ []
-
-abbrev pub arg_exprs : Arg → List Expr
-arg_exprs (value_arg value) = value ∷ []
-arg_exprs (place_arg place) = place_exprs place
-
-abbrev pub args_exprs : Args → List Expr
-args_exprs no_args = []
-args_exprs (more_args first rest) = arg_exprs first ++ args_exprs rest
-
--- The expressions that a form evaluates, in order. The indexes in a part of a value that isn't a place are literals, and
--- are not evaluated.
-abbrev pub operand_exprs : Form → List Expr
-operand_exprs (literal_form word) = []
-operand_exprs (read_form place) = place_exprs place
-operand_exprs (write_form to op common value old) = place_exprs to ++ value ∷ []
-operand_exprs (convert_form value) = value ∷ []
-operand_exprs (unary_form op value) = value ∷ []
-operand_exprs (binary_form op left right) = left ∷ right ∷ []
-operand_exprs (choose_form cond consequent alternative) = cond ∷ consequent ∷ alternative ∷ []
-operand_exprs (build_form parts) = exprs_list parts
-operand_exprs (pick_form value parts) = value ∷ []
-operand_exprs (call_form function args) = args_exprs args
-operand_exprs (intrinsic_form number args) = exprs_list args
-operand_exprs (method_form resource count address value) = address ∷ expr_if_list value
-operand_exprs (atomic_form target kind compare value original) =
-    target_exprs target ++ (expr_if_list compare ++ value ∷ place_if_exprs original)
 
 -- the first of some expressions; where there is none, one that isn't well formed
 abbrev pub first_expr : List Expr → Expr

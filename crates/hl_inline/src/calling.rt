@@ -7,13 +7,18 @@ ghost use Rattle.std.specs.Prelude.{◌≡◌, ◌+◌, ◌∷◌, ◌++◌, [],
 ghost use Rattle.hl_meaning.specs.declared.program.Parameter.{Parameter};
 ghost use Rattle.hl_meaning.specs.Trees.{an_expr, read_form};
 ghost use Rattle.hl_meaning.specs.Views.{plain_arg, plain_args, plain_expr, plain_form, plain_function, plain_location, plain_ty};
-ghost use Rattle.hl_inline.specs.Building.{behind, body_before, callees_in, instance_in, laid_to, named_body, passed_behind, passed_to, plain_code, plain_fresh, valued};
+ghost use Rattle.hl_inline.specs.Building.{behind, body_before, callees_in, emitted_to, instance_in, named_body, passed_behind, passed_to, plain_code, plain_fresh, valued};
+ghost use Rattle.hl_inline.specs.EmittedCode.{emitted_with};
+ghost use Rattle.hl_inline.specs.EmittedExpressions.{arg_emitter, args_emitters};
+ghost use Rattle.hl_inline.specs.Emitting.{place_of_variable};
 ghost use Rattle.hl_inline.specs.FlatTrees.{flat_local};
 ghost use Rattle.hl_inline.specs.FlatViews.{plain_flat_stmt};
-ghost use Rattle.hl_inline.specs.Flattening.{Argument, Inlined, Instance, arg_emitter, args_emitters, call, copy_back, inlined, inlined_at, laid_with, next_of, nothing_inlined, pass_all, place_of_variable, result_variables, start_value, with_body, with_instance, with_variables};
+ghost use Rattle.hl_inline.specs.Fresh.{Instance, next_of, with_variables};
+ghost use Rattle.hl_inline.specs.InlinedCalls.{Argument, Inlined, call, copy_back, inlined_at, nothing_inlined, pass_all, result_variables, start_value, with_body, with_instance};
+ghost use Rattle.hl_inline.specs.InlinedFunctions.{inlined};
 
 use crate::adding::{add, add_all, add_named_block, add_set};
-use crate::bodies::laid_function;
+use crate::bodies::function_code;
 use crate::context::{Context, shifted};
 use crate::copies::{copied_place, reading, reading_form};
 use crate::emitting::{Formed, emit};
@@ -91,22 +96,22 @@ fn emit_around(
 {
     let parameters = &callee.parameters;
     let copies = passed(context, at, inner.first, args, parameters, fresh, code)?;
-    lay_before(inner, callee, copies, fresh, code)?;
+    emit_body_before(inner, callee, copies, fresh, code)?;
     read_result(context.alloc, ty, inner.result)
 }
 
 /// The body of a function in front of what is written back.
 #[cycle(inlining)]
-fn lay_before(
+fn emit_body_before(
     inner: &Context,
     callee: &FunctionDef,
     copies: FlatStmts,
     fresh: &mut Fresh,
     code: &mut FlatStmts,
 ) -> Result<(), NoMemory>
-    ensures { OnOk result (laid_with (plain_code code.old) (body_before (inlined (callees_in inner.now) (plain_function callee.now)) (instance_in inner.now) (plain_code copies) (plain_fresh fresh.old)) ≡ laid_to (plain_code code.new) (plain_fresh fresh.new)) }
+    ensures { OnOk result (emitted_with (plain_code code.old) (body_before (inlined (callees_in inner.now) (plain_function callee.now)) (instance_in inner.now) (plain_code copies) (plain_fresh fresh.old)) ≡ emitted_to (plain_code code.new) (plain_fresh fresh.new)) }
 {
-    lay_named(inner, callee, fresh, code)?;
+    emit_named_body(inner, callee, fresh, code)?;
     add_all(copies, code)
 }
 
@@ -137,7 +142,7 @@ fn add_instance(
     ensures { (k : List Inlined) → OnOk result (plain_fresh fresh.new ≡ with_instance (inlined k (plain_function callee.now)) (plain_ty ty.now) at (plain_fresh fresh.old)) }
 {
     fresh.take_name()?;
-    fresh.add_copies(alloc, callee.variables.as_slice())?;
+    fresh.add_nameless(alloc, callee.variables.as_slice())?;
     add_result(alloc, ty, at, fresh)
 }
 
@@ -153,15 +158,15 @@ fn add_result(alloc: Global, ty: &HlType, at: usize, fresh: &mut Fresh) -> Resul
 
 /// The body of a function, inside the name that a `return` leaves.
 #[cycle(inlining)]
-pub(crate) fn lay_named(
+pub(crate) fn emit_named_body(
     inner: &Context,
     callee: &FunctionDef,
     fresh: &mut Fresh,
     code: &mut FlatStmts,
 ) -> Result<(), NoMemory>
-    ensures { OnOk result (laid_with (plain_code code.old) (named_body (inlined (callees_in inner.now) (plain_function callee.now)) (instance_in inner.now) (plain_fresh fresh.old)) ≡ laid_to (plain_code code.new) (plain_fresh fresh.new)) }
+    ensures { OnOk result (emitted_with (plain_code code.old) (named_body (inlined (callees_in inner.now) (plain_function callee.now)) (instance_in inner.now) (plain_fresh fresh.old)) ≡ emitted_to (plain_code code.new) (plain_fresh fresh.new)) }
 {
-    let body = laid_function(inner, callee, fresh)?;
+    let body = function_code(inner, callee, fresh)?;
     add_named_block(inner.alloc, inner.exit, body, code)
 }
 

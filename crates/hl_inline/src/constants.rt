@@ -5,11 +5,11 @@ ghost use Rattle.hl_meaning.specs.Layout.{struct_kinds_after};
 ghost use Rattle.hl_meaning.specs.Programs.{StructDef};
 ghost use Rattle.hl_meaning.specs.Views.{plain_constant, plain_expr, plain_structs};
 ghost use Rattle.hl_inline.specs.Building.{plain_code};
-ghost use Rattle.hl_inline.specs.Flattening.{constant_value, literals, set_constants};
+ghost use Rattle.hl_inline.specs.InlinedPrograms.{constant_value, literals, set_constants};
 
 use crate::flat::{FlatStmt, FlatStmts};
-use crate::layout::{Kinds, kinds_in, struct_kinds};
 use base_core::NoMemory;
+use hl_layout::{Kinds, kinds_in, struct_kinds};
 use hl_meaning::{Constant, Constants, Expr, Exprs, Form, HlType, Kind, StructDefs};
 use std::alloc::Global;
 

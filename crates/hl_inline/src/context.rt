@@ -1,12 +1,12 @@
 //! Where a function stands in a program without calls.
 
-ghost use Rattle.std.specs.Prelude.{◌≡◌, ◌+◌, ◌||◌, IfOk};
+ghost use Rattle.std.specs.Prelude.{◌≡◌, ◌+◌, IfOk};
 
 use base_core::NoMemory;
 use hl_meaning::FunctionDef;
 use std::alloc::Global;
 
-/// A function that is laid in place: the functions that it may call, how much further its variables stand, the variable
+/// A function that is put in place: the functions that it may call, how much further its variables stand, the variable
 /// of its result, and the name that a `return` leaves.
 #[derive(Clone, Copy)]
 pub(crate) struct Context<'a> {
@@ -35,11 +35,4 @@ pub(crate) fn shifted(first: u32, number: u32) -> Result<u32, NoMemory>
         Some(sum) => Ok(sum),
         None => Err(NoMemory),
     }
-}
-
-/// Whether one or the other holds.
-pub(crate) fn either(one: bool, other: bool) -> bool
-    ensures { result ≡ (one || other) }
-{
-    one || other
 }

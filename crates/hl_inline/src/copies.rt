@@ -3,7 +3,7 @@
 ghost use Rattle.std.specs.Prelude.{◌≡◌, IfOk};
 ghost use Rattle.hl_meaning.specs.Trees.{read_form};
 ghost use Rattle.hl_meaning.specs.Views.{plain_arg, plain_args, plain_expr, plain_exprs, plain_form, plain_location, plain_maybe_expr, plain_maybe_location, plain_part, plain_parts, plain_root, plain_target, plain_ty};
-ghost use Rattle.hl_inline.specs.Flattening.{place_of_variable, reading};
+ghost use Rattle.hl_inline.specs.Emitting.{place_of_variable, reading};
 
 use base_core::{Bytes, NoMemory};
 use hl_meaning::{

@@ -3,21 +3,24 @@
 //! The operands of an expression are emitted in order. What the calls in them become are statements, which go before the
 //! statement that the expression stands in. So the value of an operand is saved where a call stands in a later one.
 
-ghost use Rattle.std.specs.Prelude.{◌≡◌, ℕ, [], Bool, false, IfOk};
+ghost use Rattle.std.specs.Prelude.{◌≡◌, ◌∷◌, ℕ, [], Bool, false, IfOk};
 ghost use Rattle.hl_meaning.specs.Trees.{an_expr, atomic_form, binary_form, choose_form, method_form, write_form};
 ghost use Rattle.hl_meaning.specs.Types.{Ty};
 ghost use Rattle.hl_meaning.specs.Views.{exprs_of, plain_expr, plain_exprs, plain_form, plain_location, plain_maybe_expr, plain_maybe_location, plain_target, plain_ty};
 ghost use Rattle.hl_inline.specs.Building.{behind, callees_in, instance_in, made, made_behind, operand_behind, plain_code, plain_fresh, valued};
-ghost use Rattle.hl_inline.specs.Flattening.{emit_all, emitted, expr_if_emitters, exprs_emitters, form_emitter, settled};
+ghost use Rattle.hl_inline.specs.EmittedExpressions.{emitted, expr_if_emitters, exprs_emitters, form_emitter};
+ghost use Rattle.hl_inline.specs.Emitting.{emit_all, settled};
+ghost use Rattle.hl_inline.specs.LastCalls.{Knows, expr_if_path, expr_path, exprs_paths, form_path, path_among, place_if_path, place_path, target_path};
 ghost use Rattle.hl_inline.specs.Operands.{filled_expr_if};
 
 use crate::calling::emit_call;
-use crate::context::{Context, either};
+use crate::context::Context;
 use crate::copies::copied_parts;
 use crate::flat::FlatStmts;
 use crate::fresh::Fresh;
-use crate::holding::{expr_if_holds_call, holds_call, last_call, place_if_holds_call};
-use crate::places::{emit_place, emit_place_if, emit_target};
+use crate::last_call::{LastCall, Operand};
+use crate::places::{emit_operand_place, emit_place_along, emit_place_if, emit_target};
+use crate::searching::path_to_call;
 use crate::settling::{Emitted, settle};
 use base_core::NoMemory;
 use hl_meaning::{Expr, Exprs, Form, HlType, Location, Target};
@@ -45,8 +48,28 @@ pub(crate) fn emit(
 ) -> Result<Emitted, NoMemory>
     ensures { IfOk result (λ e. behind (plain_code code.old) (emitted (callees_in context.now) (instance_in context.now) (plain_expr expr.now) (plain_fresh fresh.old)) ≡ valued (plain_code code.new) (plain_expr e.value) e.fixed (plain_fresh fresh.new)) }
 {
+    let numbers = path_to_call(context.alloc, expr)?;
+    let last_call = LastCall {
+        numbers: numbers.as_slice(),
+    };
+    emit_along(context, last_call, expr, fresh, code)
+}
+
+/// The same along the path to its last call.
+#[cycle(inlining)]
+fn emit_along(
+    context: &Context,
+    last_call: LastCall,
+    expr: &Expr,
+    fresh: &mut Fresh,
+    code: &mut FlatStmts,
+) -> Result<Emitted, NoMemory>
+    ensures { last_call.entry.numbers.now ≡ expr_path (plain_expr expr.now) → IfOk result (λ e. behind (plain_code code.old) (emitted (callees_in context.now) (instance_in context.now) (plain_expr expr.now) (plain_fresh fresh.old)) ≡ valued (plain_code code.new) (plain_expr e.value) e.fixed (plain_fresh fresh.new)) }
+{
     let ty = expr.ty.copied(context.alloc)?;
-    let formed = emit_form(context, &expr.ty, expr.at, &expr.form, fresh, code)?;
+    let formed = emit_form(
+        context, last_call, &expr.ty, expr.at, &expr.form, fresh, code,
+    )?;
     let Formed { form, fixed } = formed;
     Ok(Emitted {
         value: Expr {
@@ -62,13 +85,14 @@ pub(crate) fn emit(
 #[cycle(inlining)]
 fn emit_form(
     context: &Context,
+    last_call: LastCall,
     ty: &HlType,
     at: usize,
     form: &Form,
     fresh: &mut Fresh,
     code: &mut FlatStmts,
 ) -> Result<Formed, NoMemory>
-    ensures { IfOk result (λ made. behind (plain_code code.old) ((form_emitter (callees_in context.now) (instance_in context.now) (plain_ty ty.now) at (plain_form form.now)).emit (plain_fresh fresh.old)) ≡ valued (plain_code code.new) (an_expr (plain_ty ty.now) at (plain_form made.form)) made.fixed (plain_fresh fresh.new)) }
+    ensures { last_call.entry.numbers.now ≡ form_path (plain_form form.now) → IfOk result (λ made. behind (plain_code code.old) ((form_emitter (callees_in context.now) (instance_in context.now) (plain_ty ty.now) at (plain_form form.now)).emit (plain_fresh fresh.old)) ≡ valued (plain_code code.new) (an_expr (plain_ty ty.now) at (plain_form made.form)) made.fixed (plain_fresh fresh.new)) }
 {
     match form {
         Form::Literal(word) => Ok(Formed {
@@ -76,7 +100,7 @@ fn emit_form(
             fixed: true,
         }),
         Form::Read(place) => {
-            let place = emit_place(context, false, place, fresh, code)?;
+            let place = emit_place_along(context, false, last_call, place, fresh, code)?;
             Ok(open(Form::Read(place)))
         }
         Form::Write {
@@ -85,27 +109,53 @@ fn emit_form(
             common,
             value,
             old,
-        } => emit_write(context, to, *op, common, value.get(), *old, fresh, code),
+        } => emit_write(
+            context,
+            last_call,
+            to,
+            *op,
+            common,
+            value.get(),
+            *old,
+            fresh,
+            code,
+        ),
         Form::Convert(value) => {
-            let value = emit_boxed(context, false, value.get(), fresh, code)?;
+            let value = emit_boxed(context, last_call.alone(), value.get(), fresh, code)?;
             Ok(open(Form::Convert(value)))
         }
         Form::Unary { op, value } => {
-            let value = emit_boxed(context, false, value.get(), fresh, code)?;
+            let value = emit_boxed(context, last_call.alone(), value.get(), fresh, code)?;
             Ok(open(Form::Unary { op: *op, value }))
         }
         Form::Binary { op, left, right } => {
-            emit_binary(context, *op, left.get(), right.get(), fresh, code)
+            emit_binary(
+                context,
+                last_call,
+                *op,
+                left.get(),
+                right.get(),
+                fresh,
+                code,
+            )
         }
         Form::Choose { cond, yes, no } => {
-            emit_choice(context, cond.get(), yes.get(), no.get(), fresh, code)
+            emit_choice(
+                context,
+                last_call,
+                cond.get(),
+                yes.get(),
+                no.get(),
+                fresh,
+                code,
+            )
         }
         Form::Build(parts) => {
-            let parts = emit_exprs(context, parts, fresh, code)?;
+            let parts = emit_exprs(context, last_call, parts, fresh, code)?;
             Ok(open(Form::Build(parts)))
         }
         Form::Pick { value, parts } => {
-            let value = emit_boxed(context, false, value.get(), fresh, code)?;
+            let value = emit_boxed(context, last_call.alone(), value.get(), fresh, code)?;
             let parts = copied_parts(context.alloc, parts)?;
             Ok(open(Form::Pick { value, parts }))
         }
@@ -113,7 +163,7 @@ fn emit_form(
             emit_call(context, *function, args.as_slice(), ty, at, fresh, code)
         }
         Form::Intrinsic { number, args } => {
-            let args = emit_exprs(context, args, fresh, code)?;
+            let args = emit_exprs(context, last_call, args, fresh, code)?;
             Ok(open(Form::Intrinsic {
                 number: *number,
                 args,
@@ -126,6 +176,7 @@ fn emit_form(
             value,
         } => emit_method(
             context,
+            last_call,
             *resource,
             *count,
             address.get(),
@@ -141,6 +192,7 @@ fn emit_form(
             original,
         } => emit_atomic(
             context,
+            last_call,
             target,
             *kind,
             compare,
@@ -162,31 +214,48 @@ fn open(form: Form) -> Formed
 
 /// An operand. It is saved where statements come behind it that may change its value.
 #[cycle(inlining)]
-pub(crate) fn emit_operand(
+fn emit_operand(
     context: &Context,
-    further: bool,
+    operand: Operand,
     expr: &Expr,
     fresh: &mut Fresh,
     code: &mut FlatStmts,
 ) -> Result<Expr, NoMemory>
-    ensures { IfOk result (λ value. operand_behind (plain_code code.old) (settled further (emitted (callees_in context.now) (instance_in context.now) (plain_expr expr.now) (plain_fresh fresh.old))) ≡ made (plain_code code.new) (plain_expr value) (plain_fresh fresh.new)) }
+    ensures { Knows operand.entry (expr_path (plain_expr expr.now)) → IfOk result (λ value. operand_behind (plain_code code.old) (settled operand.entry.further (emitted (callees_in context.now) (instance_in context.now) (plain_expr expr.now) (plain_fresh fresh.old))) ≡ made (plain_code code.new) (plain_expr value) (plain_fresh fresh.new)) }
 {
-    let emitted = emit(context, expr, fresh, code)?;
-    settle(context.alloc, further, emitted, fresh, code)
+    let emitted = emit_known(context, operand, expr, fresh, code)?;
+    settle(context.alloc, operand.further, emitted, fresh, code)
+}
+
+/// What becomes of an operand. It is searched by itself where its last call isn't known.
+#[cycle(inlining)]
+fn emit_known(
+    context: &Context,
+    operand: Operand,
+    expr: &Expr,
+    fresh: &mut Fresh,
+    code: &mut FlatStmts,
+) -> Result<Emitted, NoMemory>
+    ensures { Knows operand.entry (expr_path (plain_expr expr.now)) → IfOk result (λ e. behind (plain_code code.old) (emitted (callees_in context.now) (instance_in context.now) (plain_expr expr.now) (plain_fresh fresh.old)) ≡ valued (plain_code code.new) (plain_expr e.value) e.fixed (plain_fresh fresh.new)) }
+{
+    match operand.last_call {
+        Some(last_call) => emit_along(context, last_call, expr, fresh, code),
+        None => emit(context, expr, fresh, code),
+    }
 }
 
 /// An operand on the heap.
 #[cycle(inlining)]
 pub(crate) fn emit_boxed(
     context: &Context,
-    further: bool,
+    operand: Operand,
     expr: &Expr,
     fresh: &mut Fresh,
     code: &mut FlatStmts,
 ) -> Result<Boxed<Expr>, NoMemory>
-    ensures { IfOk result (λ value. operand_behind (plain_code code.old) (settled further (emitted (callees_in context.now) (instance_in context.now) (plain_expr expr.now) (plain_fresh fresh.old))) ≡ made (plain_code code.new) (plain_expr value) (plain_fresh fresh.new)) }
+    ensures { Knows operand.entry (expr_path (plain_expr expr.now)) → IfOk result (λ value. operand_behind (plain_code code.old) (settled operand.entry.further (emitted (callees_in context.now) (instance_in context.now) (plain_expr expr.now) (plain_fresh fresh.old))) ≡ made (plain_code code.new) (plain_expr value) (plain_fresh fresh.new)) }
 {
-    let value = emit_operand(context, further, expr, fresh, code)?;
+    let value = emit_operand(context, operand, expr, fresh, code)?;
     let value = Boxed::new(context.alloc, value)?;
     Ok(value)
 }
@@ -195,16 +264,17 @@ pub(crate) fn emit_boxed(
 #[cycle(inlining)]
 fn emit_exprs(
     context: &Context,
+    last_call: LastCall,
     exprs: &Exprs,
     fresh: &mut Fresh,
     code: &mut FlatStmts,
 ) -> Result<Exprs, NoMemory>
-    ensures { IfOk result (λ values. made_behind (plain_code code.old) exprs_of (emit_all false (exprs_emitters (callees_in context.now) (instance_in context.now) (plain_exprs exprs.now)) (plain_fresh fresh.old)) ≡ made (plain_code code.new) (plain_exprs values) (plain_fresh fresh.new)) }
+    ensures { last_call.entry.numbers.now ≡ path_among (exprs_paths (plain_exprs exprs.now)) → IfOk result (λ values. made_behind (plain_code code.old) exprs_of (emit_all false (exprs_emitters (callees_in context.now) (instance_in context.now) (plain_exprs exprs.now)) (plain_fresh fresh.old)) ≡ made (plain_code code.new) (plain_exprs values) (plain_fresh fresh.new)) }
 {
-    let last = last_call(exprs.as_slice());
     let mut values = Exprs::new(context.alloc);
     for (index, expr) in exprs.as_slice().iter().enumerate() {
-        let value = emit_operand(context, index + 1 < last, expr, fresh, code)?;
+        let operand = last_call.operand(false, index + 1);
+        let value = emit_operand(context, operand, expr, fresh, code)?;
         values.push(value)?;
     }
     Ok(values)
@@ -214,16 +284,16 @@ fn emit_exprs(
 #[cycle(inlining)]
 fn emit_expr_if(
     context: &Context,
-    further: bool,
+    operand: Operand,
     value: &Option<Boxed<Expr>>,
     fresh: &mut Fresh,
     code: &mut FlatStmts,
 ) -> Result<Option<Boxed<Expr>>, NoMemory>
-    ensures { IfOk result (λ made_value. made_behind (plain_code code.old) (filled_expr_if (plain_maybe_expr value.now)) (emit_all further (expr_if_emitters (callees_in context.now) (instance_in context.now) (plain_maybe_expr value.now)) (plain_fresh fresh.old)) ≡ made (plain_code code.new) (plain_maybe_expr made_value) (plain_fresh fresh.new)) }
+    ensures { Knows operand.entry (expr_if_path (plain_maybe_expr value.now)) → IfOk result (λ made_value. made_behind (plain_code code.old) (filled_expr_if (plain_maybe_expr value.now)) (emit_all operand.entry.further (expr_if_emitters (callees_in context.now) (instance_in context.now) (plain_maybe_expr value.now)) (plain_fresh fresh.old)) ≡ made (plain_code code.new) (plain_maybe_expr made_value) (plain_fresh fresh.new)) }
 {
     match value {
         Some(value) => {
-            let value = emit_boxed(context, further, value.get(), fresh, code)?;
+            let value = emit_boxed(context, operand, value.get(), fresh, code)?;
             Ok(Some(value))
         }
         None => Ok(None),
@@ -234,6 +304,7 @@ fn emit_expr_if(
 #[cycle(inlining)]
 fn emit_write(
     context: &Context,
+    last_call: LastCall,
     to: &Location,
     op: Option<u8>,
     common: &HlType,
@@ -242,10 +313,10 @@ fn emit_write(
     fresh: &mut Fresh,
     code: &mut FlatStmts,
 ) -> Result<Formed, NoMemory>
-    ensures { IfOk result (λ made. (ty : Ty) → (at : ℕ) → behind (plain_code code.old) ((form_emitter (callees_in context.now) (instance_in context.now) ty at (write_form (plain_location to.now) op (plain_ty common.now) (plain_expr value.now) old)).emit (plain_fresh fresh.old)) ≡ valued (plain_code code.new) (an_expr ty at (plain_form made.form)) made.fixed (plain_fresh fresh.new)) }
+    ensures { last_call.entry.numbers.now ≡ path_among (place_path (plain_location to.now) ∷ expr_path (plain_expr value.now) ∷ []) → IfOk result (λ made. (ty : Ty) → (at : ℕ) → behind (plain_code code.old) ((form_emitter (callees_in context.now) (instance_in context.now) ty at (write_form (plain_location to.now) op (plain_ty common.now) (plain_expr value.now) old)).emit (plain_fresh fresh.old)) ≡ valued (plain_code code.new) (an_expr ty at (plain_form made.form)) made.fixed (plain_fresh fresh.new)) }
 {
-    let to = emit_place(context, holds_call(value), to, fresh, code)?;
-    let value = emit_boxed(context, false, value, fresh, code)?;
+    let to = emit_operand_place(context, last_call.operand(false, 1), to, fresh, code)?;
+    let value = emit_boxed(context, last_call.operand(false, 2), value, fresh, code)?;
     let common = common.copied(context.alloc)?;
     Ok(open(Form::Write {
         to,
@@ -260,16 +331,17 @@ fn emit_write(
 #[cycle(inlining)]
 fn emit_binary(
     context: &Context,
+    last_call: LastCall,
     op: u8,
     left: &Expr,
     right: &Expr,
     fresh: &mut Fresh,
     code: &mut FlatStmts,
 ) -> Result<Formed, NoMemory>
-    ensures { IfOk result (λ made. (ty : Ty) → (at : ℕ) → behind (plain_code code.old) ((form_emitter (callees_in context.now) (instance_in context.now) ty at (binary_form op (plain_expr left.now) (plain_expr right.now))).emit (plain_fresh fresh.old)) ≡ valued (plain_code code.new) (an_expr ty at (plain_form made.form)) made.fixed (plain_fresh fresh.new)) }
+    ensures { last_call.entry.numbers.now ≡ path_among (expr_path (plain_expr left.now) ∷ expr_path (plain_expr right.now) ∷ []) → IfOk result (λ made. (ty : Ty) → (at : ℕ) → behind (plain_code code.old) ((form_emitter (callees_in context.now) (instance_in context.now) ty at (binary_form op (plain_expr left.now) (plain_expr right.now))).emit (plain_fresh fresh.old)) ≡ valued (plain_code code.new) (an_expr ty at (plain_form made.form)) made.fixed (plain_fresh fresh.new)) }
 {
-    let left = emit_boxed(context, holds_call(right), left, fresh, code)?;
-    let right = emit_boxed(context, false, right, fresh, code)?;
+    let left = emit_boxed(context, last_call.operand(false, 1), left, fresh, code)?;
+    let right = emit_boxed(context, last_call.operand(false, 2), right, fresh, code)?;
     Ok(open(Form::Binary { op, left, right }))
 }
 
@@ -277,19 +349,30 @@ fn emit_binary(
 #[cycle(inlining)]
 fn emit_choice(
     context: &Context,
+    last_call: LastCall,
     cond: &Expr,
     consequent: &Expr,
     alternative: &Expr,
     fresh: &mut Fresh,
     code: &mut FlatStmts,
 ) -> Result<Formed, NoMemory>
-    ensures { IfOk result (λ made. (ty : Ty) → (at : ℕ) → behind (plain_code code.old) ((form_emitter (callees_in context.now) (instance_in context.now) ty at (choose_form (plain_expr cond.now) (plain_expr consequent.now) (plain_expr alternative.now))).emit (plain_fresh fresh.old)) ≡ valued (plain_code code.new) (an_expr ty at (plain_form made.form)) made.fixed (plain_fresh fresh.new)) }
+    ensures { last_call.entry.numbers.now ≡ path_among (expr_path (plain_expr cond.now) ∷ expr_path (plain_expr consequent.now) ∷ expr_path (plain_expr alternative.now) ∷ []) → IfOk result (λ made. (ty : Ty) → (at : ℕ) → behind (plain_code code.old) ((form_emitter (callees_in context.now) (instance_in context.now) ty at (choose_form (plain_expr cond.now) (plain_expr consequent.now) (plain_expr alternative.now))).emit (plain_fresh fresh.old)) ≡ valued (plain_code code.new) (an_expr ty at (plain_form made.form)) made.fixed (plain_fresh fresh.new)) }
 {
-    let behind = holds_call(alternative);
-    let behind_cond = either(holds_call(consequent), behind);
-    let cond = emit_boxed(context, behind_cond, cond, fresh, code)?;
-    let yes = emit_boxed(context, behind, consequent, fresh, code)?;
-    let no = emit_boxed(context, false, alternative, fresh, code)?;
+    let cond = emit_boxed(context, last_call.operand(false, 1), cond, fresh, code)?;
+    let yes = emit_boxed(
+        context,
+        last_call.operand(false, 2),
+        consequent,
+        fresh,
+        code,
+    )?;
+    let no = emit_boxed(
+        context,
+        last_call.operand(false, 3),
+        alternative,
+        fresh,
+        code,
+    )?;
     Ok(open(Form::Choose { cond, yes, no }))
 }
 
@@ -297,6 +380,7 @@ fn emit_choice(
 #[cycle(inlining)]
 fn emit_method(
     context: &Context,
+    last_call: LastCall,
     resource: u32,
     count: u8,
     address: &Expr,
@@ -304,10 +388,10 @@ fn emit_method(
     fresh: &mut Fresh,
     code: &mut FlatStmts,
 ) -> Result<Formed, NoMemory>
-    ensures { IfOk result (λ made. (ty : Ty) → (at : ℕ) → behind (plain_code code.old) ((form_emitter (callees_in context.now) (instance_in context.now) ty at (method_form resource count (plain_expr address.now) (plain_maybe_expr value.now))).emit (plain_fresh fresh.old)) ≡ valued (plain_code code.new) (an_expr ty at (plain_form made.form)) made.fixed (plain_fresh fresh.new)) }
+    ensures { last_call.entry.numbers.now ≡ path_among (expr_path (plain_expr address.now) ∷ expr_if_path (plain_maybe_expr value.now) ∷ []) → IfOk result (λ made. (ty : Ty) → (at : ℕ) → behind (plain_code code.old) ((form_emitter (callees_in context.now) (instance_in context.now) ty at (method_form resource count (plain_expr address.now) (plain_maybe_expr value.now))).emit (plain_fresh fresh.old)) ≡ valued (plain_code code.new) (an_expr ty at (plain_form made.form)) made.fixed (plain_fresh fresh.new)) }
 {
-    let address = emit_boxed(context, expr_if_holds_call(value), address, fresh, code)?;
-    let value = emit_expr_if(context, false, value, fresh, code)?;
+    let address = emit_boxed(context, last_call.operand(false, 1), address, fresh, code)?;
+    let value = emit_expr_if(context, last_call.operand(false, 2), value, fresh, code)?;
     Ok(open(Form::Method {
         resource,
         count,
@@ -320,6 +404,7 @@ fn emit_method(
 #[cycle(inlining)]
 fn emit_atomic(
     context: &Context,
+    last_call: LastCall,
     target: &Target,
     kind: Option<AtomicKind>,
     compare: &Option<Boxed<Expr>>,
@@ -328,15 +413,12 @@ fn emit_atomic(
     fresh: &mut Fresh,
     code: &mut FlatStmts,
 ) -> Result<Formed, NoMemory>
-    ensures { IfOk result (λ made. (ty : Ty) → (at : ℕ) → behind (plain_code code.old) ((form_emitter (callees_in context.now) (instance_in context.now) ty at (atomic_form (plain_target target.now) kind (plain_maybe_expr compare.now) (plain_expr value.now) (plain_maybe_location original.now))).emit (plain_fresh fresh.old)) ≡ valued (plain_code code.new) (an_expr ty at (plain_form made.form)) made.fixed (plain_fresh fresh.new)) }
+    ensures { last_call.entry.numbers.now ≡ path_among (target_path (plain_target target.now) ∷ expr_if_path (plain_maybe_expr compare.now) ∷ expr_path (plain_expr value.now) ∷ place_if_path (plain_maybe_location original.now) ∷ []) → IfOk result (λ made. (ty : Ty) → (at : ℕ) → behind (plain_code code.old) ((form_emitter (callees_in context.now) (instance_in context.now) ty at (atomic_form (plain_target target.now) kind (plain_maybe_expr compare.now) (plain_expr value.now) (plain_maybe_location original.now))).emit (plain_fresh fresh.old)) ≡ valued (plain_code code.new) (an_expr ty at (plain_form made.form)) made.fixed (plain_fresh fresh.new)) }
 {
-    let behind_value = place_if_holds_call(original);
-    let behind_compare = either(holds_call(value), behind_value);
-    let behind_target = either(expr_if_holds_call(compare), behind_compare);
-    let target = emit_target(context, behind_target, target, fresh, code)?;
-    let compare = emit_expr_if(context, behind_compare, compare, fresh, code)?;
-    let value = emit_boxed(context, behind_value, value, fresh, code)?;
-    let original = emit_place_if(context, original, fresh, code)?;
+    let target = emit_target(context, last_call.operand(false, 1), target, fresh, code)?;
+    let compare = emit_expr_if(context, last_call.operand(false, 2), compare, fresh, code)?;
+    let value = emit_boxed(context, last_call.operand(false, 3), value, fresh, code)?;
+    let original = emit_place_if(context, last_call.operand(false, 4), original, fresh, code)?;
     Ok(open(Form::Atomic {
         target,
         kind,

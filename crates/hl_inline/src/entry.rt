@@ -3,7 +3,8 @@
 ghost use Rattle.std.specs.Prelude.{◌≡◌, [], ◌∷◌, ◌++◌, IfOk, OnOk, map};
 ghost use Rattle.hl_meaning.specs.Views.{plain_constant, plain_variable};
 ghost use Rattle.hl_inline.specs.Building.{constant_variables, plain_code, plain_fresh};
-ghost use Rattle.hl_inline.specs.Flattening.{set_inputs};
+ghost use Rattle.hl_inline.specs.Fresh.{nameless};
+ghost use Rattle.hl_inline.specs.InlinedPrograms.{set_inputs};
 
 use crate::context::shifted;
 use crate::flat::{FlatStmt, FlatStmts};
@@ -12,7 +13,7 @@ use base_core::NoMemory;
 use hl_meaning::{Constant, FunctionDef, Parameter, Variables};
 use std::alloc::Global;
 
-/// The variables of the constants and of the entry, whose name is 0.
+/// The variables of the constants and of the entry, and the names behind 0, which the entry leaves.
 ///
 /// # Errors
 /// `NoMemory` where memory is refused, as in each call below.
@@ -21,14 +22,14 @@ pub(crate) fn entry_fresh(
     constants: &[Constant],
     entry: &FunctionDef,
 ) -> Result<Fresh, NoMemory>
-    ensures { IfOk result (λ fresh. plain_fresh fresh ≡ record { variables = constant_variables (map plain_constant constants.now) ++ map plain_variable entry.now.variables; names = 1 }) }
+    ensures { IfOk result (λ fresh. plain_fresh fresh ≡ record { variables = constant_variables (map plain_constant constants.now) ++ map nameless (map plain_variable entry.now.variables); names = 1 }) }
 {
     let variables = constant_variables(alloc, constants)?;
     let mut fresh = Fresh {
         variables,
         names: 1,
     };
-    fresh.add_copies(alloc, entry.variables.as_slice())?;
+    fresh.add_nameless(alloc, entry.variables.as_slice())?;
     Ok(fresh)
 }
 

@@ -3,7 +3,7 @@
 ghost use Rattle.std.specs.Prelude.{◌≡◌, suc, ◌∷◌, [], IfOk, OnOk, map};
 ghost use Rattle.hl_meaning.specs.Views.{plain_ty, plain_variable};
 ghost use Rattle.hl_inline.specs.Building.{plain_fresh};
-ghost use Rattle.hl_inline.specs.Flattening.{next_of, unnamed, with_variables};
+ghost use Rattle.hl_inline.specs.Fresh.{nameless, next_of, unnamed, with_variables};
 
 use base_core::{NoMemory, Text};
 use hl_meaning::{HlType, Variable, Variables};
@@ -55,16 +55,15 @@ impl Fresh {
         })
     }
 
-    /// Adds copies of variables, in order.
+    /// Adds variables of the types of some, in order, without their names.
     ///
     /// # Errors
     /// `NoMemory` where memory is refused.
-    pub fn add_copies(&mut self, alloc: Global, variables: &[Variable]) -> Result<(), NoMemory>
-        ensures { OnOk result (plain_fresh self.new ≡ with_variables (map plain_variable variables.now) (plain_fresh self.old)) }
+    pub fn add_nameless(&mut self, alloc: Global, variables: &[Variable]) -> Result<(), NoMemory>
+        ensures { OnOk result (plain_fresh self.new ≡ with_variables (map nameless (map plain_variable variables.now)) (plain_fresh self.old)) }
     {
         for variable in variables {
-            let copy = copied_variable(alloc, variable)?;
-            self.variables.push(copy)?;
+            self.add_unnamed(alloc, &variable.ty, variable.at)?;
         }
         Ok(())
     }

@@ -6,15 +6,17 @@ ghost use Rattle.hl_meaning.specs.Held.{plain_program};
 ghost use Rattle.hl_meaning.specs.Sums.{variable_words};
 ghost use Rattle.hl_meaning.specs.Views.{plain_function};
 ghost use Rattle.hl_source.specs.SourceLane.{source_lane};
-ghost use Rattle.hl_inline.specs.Building.{inlined_all, laid_to, named_body, plain_code, plain_fresh};
+ghost use Rattle.hl_inline.specs.Building.{emitted_to, inlined_all, named_body, plain_code, plain_fresh};
+ghost use Rattle.hl_inline.specs.EmittedCode.{emitted_with};
 ghost use Rattle.hl_inline.specs.Entering.{entry_before, entry_behind, plain_parts};
 ghost use Rattle.hl_inline.specs.FlatLane.{flat_lane};
 ghost use Rattle.hl_inline.specs.FlatWellFormed.{most_shared_words};
-ghost use Rattle.hl_inline.specs.Flattening.{flattened, inlined, laid_with};
 ghost use Rattle.hl_inline.specs.HeldFlat.{plain_flat};
+ghost use Rattle.hl_inline.specs.InlinedFunctions.{inlined};
+ghost use Rattle.hl_inline.specs.InlinedPrograms.{inlined_program};
 ghost use Rattle.hl_inline.specs.Keeps.{Keeps};
 
-use crate::calling::lay_named;
+use crate::calling::emit_named_body;
 use crate::constants::set_constants;
 use crate::context::Context;
 use crate::entry::{entry_fresh, set_inputs};
@@ -52,7 +54,7 @@ pub fn inline(alloc: Global, program: &Program) -> Result<Flat, NoMemory>
 /// What the program becomes by its definition.
 fn without_calls(alloc: Global, program: &Program) -> Result<Flat, NoMemory>
     requires { variable_words (plain_program program.now).structs (plain_program program.now).shared ≤ most_shared_words }
-    ensures { IfOk result (λ flat. plain_flat flat ≡ flattened (plain_program program.now)) }
+    ensures { IfOk result (λ flat. plain_flat flat ≡ inlined_program (plain_program program.now)) }
 {
     let parts = flat_parts(alloc, program)?;
     let threads = parts.threads;
@@ -68,7 +70,7 @@ fn without_calls(alloc: Global, program: &Program) -> Result<Flat, NoMemory>
 
 /// The parts of the program without calls.
 fn flat_parts(alloc: Global, program: &Program) -> Result<Parts, NoMemory>
-    ensures { IfOk result (λ parts. plain_parts parts ≡ flattened (plain_program program.now)) }
+    ensures { IfOk result (λ parts. plain_parts parts ≡ inlined_program (plain_program program.now)) }
 {
     let threads = program.threads;
     let number = program.entry as usize;
@@ -98,7 +100,7 @@ fn entry_code(
     entry: &FunctionDef,
     fresh: &mut Fresh,
 ) -> Result<FlatStmts, NoMemory>
-    ensures { IfOk result (λ code. laid_with (entry_before (plain_program program.now) (plain_function entry.now)) (named_body (inlined (inlined_all callees.now) (plain_function entry.now)) (entry_behind (plain_program program.now) (plain_fresh fresh.old)) (plain_fresh fresh.old)) ≡ laid_to (plain_code code) (plain_fresh fresh.new)) }
+    ensures { IfOk result (λ code. emitted_with (entry_before (plain_program program.now) (plain_function entry.now)) (named_body (inlined (inlined_all callees.now) (plain_function entry.now)) (entry_behind (plain_program program.now) (plain_fresh fresh.old)) (plain_fresh fresh.old)) ≡ emitted_to (plain_code code) (plain_fresh fresh.new)) }
 {
     let first = program.constants.len() as u32;
     let context = Context {
@@ -111,6 +113,6 @@ fn entry_code(
     let mut code = FlatStmts::new(alloc);
     set_constants(alloc, &program.structs, &program.constants, &mut code)?;
     set_inputs(first, entry.parameters.as_slice(), &mut code)?;
-    lay_named(&context, entry, fresh, &mut code)?;
+    emit_named_body(&context, entry, fresh, &mut code)?;
     Ok(code)
 }

@@ -3,9 +3,9 @@
 ghost use Rattle.std.specs.Prelude.{◌≡◌, IfOk};
 ghost use Rattle.hl_meaning.specs.Views.{plain_expr};
 ghost use Rattle.hl_inline.specs.Building.{plain_code};
+ghost use Rattle.hl_inline.specs.EmittedCode.{as_alternative, as_one};
 ghost use Rattle.hl_inline.specs.FlatTrees.{flat_block, flat_if, flat_leave, flat_loop, flat_named, no_flat_stmts, some_flat_stmt};
 ghost use Rattle.hl_inline.specs.FlatViews.{plain_flat_stmt, plain_maybe_flat_stmt};
-ghost use Rattle.hl_inline.specs.Flattening.{as_alternative, as_one};
 
 use crate::flat::{FlatStmt, FlatStmts};
 use base_core::NoMemory;

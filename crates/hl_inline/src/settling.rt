@@ -3,7 +3,7 @@
 ghost use Rattle.std.specs.Prelude.{◌≡◌, [], false, IfOk};
 ghost use Rattle.hl_meaning.specs.Views.{plain_expr};
 ghost use Rattle.hl_inline.specs.Building.{made, operand_behind, plain_code, plain_fresh, valued};
-ghost use Rattle.hl_inline.specs.Flattening.{saved, settled};
+ghost use Rattle.hl_inline.specs.Emitting.{saved, settled};
 
 use crate::copies::reading;
 use crate::flat::{FlatStmt, FlatStmts};

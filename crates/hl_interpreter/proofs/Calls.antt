@@ -4,7 +4,7 @@ use Rattle.lane_core.specs.declared.event.Reply.{Reply}
 use Rattle.hl_meaning.specs.Trees.{Arg, Args, call_form, more_args}
 use Rattle.hl_meaning.specs.Types.{Ty}
 use Rattle.hl_meaning.specs.declared.program.Parameter.{Parameter}
-use Rattle.hl_source.specs.Expressions.{acts, argument, argument_of, arguments, copies_out, no_callee, parameters_of, starts}
+use Rattle.hl_source.specs.Expressions.{acts, argument_of, argument_operands, arguments, copies_out, initial_parameters, no_callee, parameters_of}
 use Rattle.hl_source.specs.State.{Callee, Context, Progress, State, after, goes_with}
 use Rattle.hl_interpreter.specs.declared.run.Stop.{Stop}
 use Rattle.hl_interpreter.specs.Operands.{interleaved}
@@ -16,14 +16,14 @@ use Rattle.hl_interpreter.proofs.Meeting.{behind, behind-joined, behind-joined-s
 -- ---- the operands of arguments
 
 -- what the parameters start with
-pub starts-of : (indexes start : List (List ℕ)) → length indexes ≡ length start → starts (interleaved indexes start) ≡ start
+pub starts-of : (indexes start : List (List ℕ)) → length indexes ≡ length start → initial_parameters (interleaved indexes start) ≡ start
 starts-of [] [] e = refl
 starts-of [] (x ∷ start) e = absurd (omega arith)
 starts-of (a ∷ indexes) [] e = absurd (omega arith)
 starts-of (a ∷ indexes) (x ∷ start) e = ap (λ l. x ∷ l) (starts-of indexes start (omega arith))
 
 -- one more argument
-pub interleaved-more : (indexes start : List (List ℕ)) (a x : List ℕ) → length indexes ≡ length start → interleaved indexes start ++ argument a x ≡ interleaved (indexes ++ a ∷ []) (start ++ x ∷ [])
+pub interleaved-more : (indexes start : List (List ℕ)) (a x : List ℕ) → length indexes ≡ length start → interleaved indexes start ++ argument_operands a x ≡ interleaved (indexes ++ a ∷ []) (start ++ x ∷ [])
 interleaved-more [] [] a x e = refl
 interleaved-more [] (y ∷ start) a x e = absurd (omega arith)
 interleaved-more (b ∷ indexes) [] a x e = absurd (omega arith)
@@ -44,27 +44,27 @@ module _ (c : Context) (ty : Ty) (s : State) (function : ℕ) (args : Args) wher
   pub call-first : {A : Type 0} (view : A → List (List ℕ)) (e : Stop) (t : State) → Meets view (Err e) t (arguments c args (parameters_of c function) s) → Gives (Err e) t (form_value c ty (call_form function args) s)
   call-first view e t h = stops view (λ w. w) e t parts (acts c ty (call_form function args)) h
 
-  module _ (operands : List (List ℕ)) (t : State) (variables : List (List ℕ)) (h : arguments c args (parameters_of c function) s ≡ goes_with operands t) (is : starts operands ≡ variables) where
-    run-same : called variables t.exchange ≡ called (starts operands) t.exchange
+  module _ (operands : List (List ℕ)) (t : State) (variables : List (List ℕ)) (h : arguments c args (parameters_of c function) s ≡ goes_with operands t) (is : initial_parameters operands ≡ variables) where
+    run-same : called variables t.exchange ≡ called (initial_parameters operands) t.exchange
     run-same = ap (λ v. called v t.exchange) (sym is)
 
     pub call-second : (e : Stop) (u : State) → Gives (Err e) u (slice_index_or c.callees function no_callee variables t.exchange) → Gives (Err e) u (form_value c ty (call_form function args) s)
     call-second e u k =
         goes (λ w. w) operands (Err e) t u parts (acts c ty (call_form function args)) h
-        (stops (λ w. w) (λ w. w) e u (called (starts operands) t.exchange) (λ result ended. after (copied operands t ended) (λ _ s'. goes_with result s'))
+        (stops (λ w. w) (λ w. w) e u (called (initial_parameters operands) t.exchange) (λ result ended. after (copied operands t ended) (λ _ s'. goes_with result s'))
         (same (λ w. w) (Err e) u _ _ run-same k))
 
     module _ (w : List ℕ) (u : State) (k : slice_index_or c.callees function no_callee variables t.exchange ≡ goes_with w u) where
       pub call-third : (e : Stop) (v : State) → Does (Err e) v (copies_out c args operands u.variables (record t { exchange = u.exchange })) → Gives (Err e) v (form_value c ty (call_form function args) s)
       call-third e v l =
           goes (λ x. x) operands (Err e) t v parts (acts c ty (call_form function args)) h
-          (goes (λ x. x) w (Err e) u v (called (starts operands) t.exchange) (λ result ended. after (copied operands t ended) (λ _ s'. goes_with result s')) (sym run-same ∙ k)
+          (goes (λ x. x) w (Err e) u v (called (initial_parameters operands) t.exchange) (λ result ended. after (copied operands t ended) (λ _ s'. goes_with result s')) (sym run-same ∙ k)
           (stops {A = Unit {0}} (λ _. []) (λ x. x) e v (copied operands t u) (λ _ s'. goes_with w s') l))
 
       pub call-goes : (v : State) → copies_out c args operands u.variables (record t { exchange = u.exchange }) ≡ goes_with [] v → Gives (Ok w) v (form_value c ty (call_form function args) s)
       call-goes v l =
           goes (λ x. x) operands (Ok w) t v parts (acts c ty (call_form function args)) h
-          (goes (λ x. x) w (Ok w) u v (called (starts operands) t.exchange) (λ result ended. after (copied operands t ended) (λ _ s'. goes_with result s')) (sym run-same ∙ k)
+          (goes (λ x. x) w (Ok w) u v (called (initial_parameters operands) t.exchange) (λ result ended. after (copied operands t ended) (λ _ s'. goes_with result s')) (sym run-same ∙ k)
           (goes (λ x. x) [] (Ok w) v v (copied operands t u) (λ _ s'. goes_with w s') l refl))
 
 -- ---- arguments, one after another
@@ -75,10 +75,10 @@ module _ (c : Context) (first : Arg) (rest : Args) (p : Parameter) (parameters :
   argument-stops view other e t h =
       same other (Err e) t _ _ (sym is) (behind-joined-stops view (interleaved indexes start) (argument_of c first p.copying s) (λ s'. arguments c rest parameters s') other e t h)
 
-  pub argument-next : (t : State) (a x : List ℕ) → length indexes ≡ length start → argument_of c first p.copying s ≡ goes_with (argument a x) t
+  pub argument-next : (t : State) (a x : List ℕ) → length indexes ≡ length start → argument_of c first p.copying s ≡ goes_with (argument_operands a x) t
       → whole ≡ behind (interleaved (indexes ++ a ∷ []) (start ++ x ∷ [])) (arguments c rest parameters t)
   argument-next t a x e h =
-      is ∙ (behind-joined (interleaved indexes start) (argument a x) t (argument_of c first p.copying s) (λ s'. arguments c rest parameters s') h ∙
+      is ∙ (behind-joined (interleaved indexes start) (argument_operands a x) t (argument_of c first p.copying s) (λ s'. arguments c rest parameters s') h ∙
       ap (λ l. behind l (arguments c rest parameters t)) (interleaved-more indexes start a x e))
 
 -- ---- behind a call

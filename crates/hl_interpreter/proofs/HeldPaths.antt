@@ -19,7 +19,7 @@ use Rattle.hl_meaning.specs.Types.{Ty, scalar_type}
 use Rattle.hl_meaning.specs.Views.{plain_expr, plain_form, plain_part, plain_parts, plain_ty}
 use Rattle.hl_meaning.proofs.Plain.{plain_expr-is, plain_form-Atomic, plain_form-Binary, plain_form-Build, plain_form-Call, plain_form-Choose, plain_form-Convert, plain_form-Intrinsic, plain_form-Method, plain_form-Pick, plain_form-Read, plain_form-Unary, plain_form-Write, plain_part-Index, plain_part-Member, plain_part-Swizzle, plain_ty-Array, plain_ty-Scalar, plain_ty-Struct, plain_ty-Vector, plain_ty-Void}
 use Rattle.hl_meaning.proofs.TypeLemmas.{type_cases}
-use Rattle.hl_source.specs.Offsets.{Holder, Place, Reached, at_index, at_member, at_swizzle, element_of, further, holder_of, in_element, literal_indexes, literal_word, member_of, reached}
+use Rattle.hl_source.specs.Offsets.{Holder, Place, Reached, element_of, further, holder_of, in_element, literal_indexes, literal_word, member_of, reached, step_to_element, step_to_letters, step_to_member}
 use Rattle.hl_source.specs.State.{Context}
 use Rattle.hl_source.specs.Operations.{component_kind}
 use Rattle.hl_interpreter.specs.HeldPlaces.{index_count, literal_of}
@@ -50,12 +50,12 @@ element_of-other = type_cases (λ o. ((e : HlType) (n : ℕ) → o ≡ Array e n
 
 -- ---- swizzles
 
-pub swizzle-one : (from : Reached) (letters : List ℕ) → length letters ≡ 1 → at_swizzle from letters ≡ further from (scalar_type (component_kind from.ty)) (slice_index letters 0)
+pub swizzle-one : (from : Reached) (letters : List ℕ) → length letters ≡ 1 → step_to_letters from letters ≡ further from (scalar_type (component_kind from.ty)) (slice_index letters 0)
 swizzle-one from [] one = absurd (omega arith)
 swizzle-one from (letter ∷ []) one = refl
 swizzle-one from (letter ∷ other ∷ letters) one = absurd (omega arith)
 
-pub swizzle-other : (from : Reached) (letters : List ℕ) → (length letters ≡ 1 → ⊥) → at_swizzle from letters ≡ record from { letters = letters }
+pub swizzle-other : (from : Reached) (letters : List ℕ) → (length letters ≡ 1 → ⊥) → step_to_letters from letters ≡ record from { letters = letters }
 swizzle-other from [] other = refl
 swizzle-other from (letter ∷ []) other = absurd (other refl)
 swizzle-other from (letter ∷ next ∷ letters) other = refl
@@ -63,19 +63,19 @@ swizzle-other from (letter ∷ next ∷ letters) other = refl
 -- ---- one step
 
 module _ (structs : List plain.StructDef) (from there : Reached) (part : HeldPart) (rest : PathParts) (indexes : List ℕ) where
-  pub step-member : (number : ℕ) → part ≡ Member number → there ≡ at_member from (member_of structs from.ty number)
+  pub step-member : (number : ℕ) → part ≡ Member number → there ≡ step_to_member from (member_of structs from.ty number)
       → reached structs from (more_parts (plain_part part) rest) indexes ≡ reached structs there rest (drop (index_count (plain_part part)) indexes)
   step-member number is e =
       subst (λ p. reached structs from (more_parts p rest) indexes ≡ reached structs there rest (drop (index_count p) indexes)) (sym (ap plain_part is ∙ plain_part-Member number))
       (ap (λ r. reached structs r rest indexes) (sym e))
 
-  pub step-index : (index : Expr) (word : ℕ) → part ≡ Index index → slice_index indexes 0 ≡ word → there ≡ at_index structs from word
+  pub step-index : (index : Expr) (word : ℕ) → part ≡ Index index → slice_index indexes 0 ≡ word → there ≡ step_to_element structs from word
       → reached structs from (more_parts (plain_part part) rest) indexes ≡ reached structs there rest (drop (index_count (plain_part part)) indexes)
   step-index index word is at e =
       subst (λ p. reached structs from (more_parts p rest) indexes ≡ reached structs there rest (drop (index_count p) indexes)) (sym (ap plain_part is ∙ plain_part-Index index))
-      (ap (λ r. reached structs r rest (drop 1 indexes)) (ap (at_index structs from) at ∙ sym e))
+      (ap (λ r. reached structs r rest (drop 1 indexes)) (ap (step_to_element structs from) at ∙ sym e))
 
-  pub step-swizzle : (letters : List ℕ) → part ≡ Swizzle letters → there ≡ at_swizzle from letters
+  pub step-swizzle : (letters : List ℕ) → part ≡ Swizzle letters → there ≡ step_to_letters from letters
       → reached structs from (more_parts (plain_part part) rest) indexes ≡ reached structs there rest (drop (index_count (plain_part part)) indexes)
   step-swizzle letters is e =
       subst (λ p. reached structs from (more_parts p rest) indexes ≡ reached structs there rest (drop (index_count p) indexes)) (sym (ap plain_part is ∙ plain_part-Swizzle letters))
@@ -141,7 +141,7 @@ literal_word-other e not = ap literal_word (plain_expr-is e) ∙ subst P (roll-o
 -- ---- places
 
 abbrev pub a_place : Holder → Reached → Place
-a_place holder at = record { holder = holder; at = at }
+a_place holder at = record { holder = holder; reached = at }
 
 pub holder-same : (c d : Context) (indexes : List ℕ) (root : form.Root) → c.slots ≡ d.slots → holder_of c root indexes ≡ holder_of d root indexes
 holder-same c d indexes (variable_root number) same = refl

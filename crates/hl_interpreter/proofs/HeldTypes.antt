@@ -1,10 +1,10 @@
 -- Types that are held, by their forms.
-use Rattle.std.proofs.Common.{◌≡◌, ◌∙◌, refl, sym, ap, ℕ, zero, suc, ◌+◌, false, List, [], ◌∷◌, ◌++◌, append-nil, append_assoc, suc-add}
+use Rattle.std.proofs.Common.{◌≡◌, ◌∙◌, refl, ap, ℕ, false, List, [], ◌∷◌}
 use Rattle.hl_meaning.specs.declared.ty.Kind.{Kind}
 use Rattle.hl_meaning.specs.declared.ty.Kind.TheVariants.{Uint}
 use Rattle.hl_meaning.specs.declared.ty.HlType.{HlType}
 use Rattle.hl_meaning.specs.declared.ty.HlType.TheVariants.{Scalar, Vector}
-use Rattle.hl_meaning.specs.Layout.{kinds_of, repeated}
+use Rattle.hl_meaning.specs.Layout.{kinds_of}
 use Rattle.hl_meaning.specs.Programs.{StructDef}
 use Rattle.hl_meaning.specs.Types.{Ty, array_type, component_count, is_scalar, scalar_type, struct_type, void_type}
 use Rattle.hl_meaning.specs.Views.{plain_ty}
@@ -35,12 +35,6 @@ is_scalar-other = type_cases (λ o. ((k : Kind) → o ≡ Scalar k → ⊥) → 
     (λ k n not. ap is_scalar (plain_ty-Vector k n))
     (λ e n not. ap is_scalar (plain_ty-Array e n))
     (λ n not. ap is_scalar (plain_ty-Struct n))
-
--- once more the one list
-pub repeated-next : (count : ℕ) (kinds : List Kind) → repeated count kinds ++ kinds ≡ repeated (count + 1) kinds
-repeated-next zero kinds = sym (append-nil kinds)
-repeated-next (suc count) kinds =
-    append_assoc kinds (repeated count kinds) kinds ∙ (ap (λ l. kinds ++ l) (repeated-next count kinds) ∙ ap (λ k. repeated k kinds) (sym (suc-add count 1)))
 
 pub kinds-scalar : (structs : List StructDef) (kind : Kind) → kinds_of structs (scalar_type kind) ≡ kind ∷ []
 unfolding kinds_of

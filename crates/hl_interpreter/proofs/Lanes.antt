@@ -8,7 +8,7 @@ use Rattle.hl_meaning.specs.Held.{plain_program}
 use Rattle.hl_meaning.specs.Slots.{slots_of}
 use Rattle.hl_meaning.specs.Views.{plain_function, plain_resource}
 use Rattle.hl_source.specs.Expressions.{no_callee}
-use Rattle.hl_source.specs.SourceLane.{ended, entry_of, inputs, source_lane}
+use Rattle.hl_source.specs.SourceLane.{entry_of, entry_run, inputs, source_lane}
 use Rattle.hl_interpreter.specs.declared.run.Run.{Run}
 use Rattle.hl_interpreter.specs.declared.state.State.{State as HeldState}
 use Rattle.hl_interpreter.specs.Runs.{callees_behind, lane_of, state_of}
@@ -21,7 +21,7 @@ first-asked run before none = sym (ap (λ (events : List Event). record { asked 
 -- the run of the entry is the run of the lane
 pub lane-done : (run : Run) (before behind : HeldState) (outcome : Asked) → run.slots.now ≡ slots_of (map plain_resource run.program.now.resources) → before.events ≡ []
     → before.variables.items ≡ inputs (plain_program run.program.now) (lane_of run.lane.now) (slice_get (plain_program run.program.now).functions run.program.now.entry)
-    → ended (slice_index_or (callees_behind run [] [] (map plain_function run.program.now.functions)) run.program.now.entry no_callee before.variables.items (state_of run.replies.now before).exchange)
+    → entry_run (slice_index_or (callees_behind run [] [] (map plain_function run.program.now.functions)) run.program.now.entry no_callee before.variables.items (state_of run.replies.now before).exchange)
     ≡ standing (state_of run.replies.now behind).exchange outcome
     → source_lane (plain_program run.program.now) run.turns (lane_of run.lane.now) run.replies.now ≡ Some (record { events = behind.events; outcome = outcome })
 unfolding source_lane
@@ -31,7 +31,7 @@ lane-done run before behind outcome slots none is runs =
     let functions = map plain_function run.program.now.functions in
     let callees = callees_behind run [] [] functions in
     let vs = before.variables.items in
-    ap (λ l. Some (ended (entry_of p lane run.turns l (first_exchange run.replies.now)))) (sym is) ∙
-    (ap (λ cs. Some (ended (unwrap_or (slice_get cs p.entry) no_callee vs (first_exchange run.replies.now)))) (callees-same run [] [] functions slots refl refl) ∙
-    (ap (λ f. Some (ended (f vs (first_exchange run.replies.now)))) (unwrap_or-slice_get callees p.entry no_callee) ∙
-    (ap (λ x. Some (ended (slice_index_or callees p.entry no_callee vs x))) (first-asked run before none) ∙ ap Some runs)))
+    ap (λ l. Some (entry_run (entry_of p lane run.turns l (first_exchange run.replies.now)))) (sym is) ∙
+    (ap (λ cs. Some (entry_run (unwrap_or (slice_get cs p.entry) no_callee vs (first_exchange run.replies.now)))) (callees-same run [] [] functions slots refl refl) ∙
+    (ap (λ f. Some (entry_run (f vs (first_exchange run.replies.now)))) (unwrap_or-slice_get callees p.entry no_callee) ∙
+    (ap (λ x. Some (entry_run (slice_index_or callees p.entry no_callee vs x))) (first-asked run before none) ∙ ap Some runs)))

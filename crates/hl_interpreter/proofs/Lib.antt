@@ -23,5 +23,4 @@ pub mod Semantics
 pub mod Skipping
 pub mod Turns
 pub mod Values
-pub mod Weights
 pub mod WorkForms

@@ -9,7 +9,7 @@ use Rattle.hl_meaning.specs.Programs.{FunctionDef}
 use Rattle.hl_meaning.specs.Views.{plain_args, plain_function, plain_variable}
 use Rattle.hl_source.specs.Expressions.{arguments}
 use Rattle.hl_source.specs.Memory.{zeros_of}
-use Rattle.hl_source.specs.SourceLane.{callee_of, first_state, value_of}
+use Rattle.hl_source.specs.SourceLane.{callee_of, first_state, returned_value}
 use Rattle.hl_source.specs.State.{Callee, Context, State, after, goes_with}
 use Rattle.hl_source.specs.Statements.{Doing, does_all, turns}
 use Rattle.hl_interpreter.specs.declared.run.Run.{Run}
@@ -36,9 +36,9 @@ first-is run earlier f before behind is same =
 
 -- a function as it is called
 pub called-as : (c : Context) (n : ℕ) (f : FunctionDef) (callee : Callee) (parameters : List (List ℕ)) (exchange : Exchange) (s : State) → callee ≡ callee_of c n f → first_state c f parameters exchange ≡ s
-    → callee parameters exchange ≡ after (does_all c n f.body s) (λ leaving t. goes_with (value_of leaving) t)
+    → callee parameters exchange ≡ after (does_all c n f.body s) (λ leaving t. goes_with (returned_value leaving) t)
 called-as c n f callee parameters exchange s is begins =
-    ap (λ g. g parameters exchange) is ∙ ap (λ b. after (does_all c n f.body b) (λ leaving t. goes_with (value_of leaving) t)) begins
+    ap (λ g. g parameters exchange) is ∙ ap (λ b. after (does_all c n f.body b) (λ leaving t. goes_with (returned_value leaving) t)) begins
 
 -- ---- loops
 

@@ -1,16 +1,9 @@
 -- Lists that are gone through from the front: what was made so far, and what the rest makes.
 use Rattle.std.proofs.Common.{◌≡◌, ◌∙◌, refl, sym, ap, ℕ, zero, suc, ◌+◌, ◌<◌, ◌≤◌, List, [], ◌∷◌, ◌++◌, append_assoc, append-nil, drop, get_or, length, map, suc-add, arith}
-use Rattle.std.proofs.lemmas.List.{drop_all, drop_more}
+use Rattle.std.proofs.lemmas.List.{drop_all}
 use Rattle.std.specs.List.{concat, range_with_len}
 use Rattle.hl_source.specs.Operations.{map_2, map_3}
-
--- the next part of a list
-pub drop-next : {A : Type 0} (xs : List A) (i : ℕ) (x : A) → i < length xs → x ≡ get_or xs i x → drop i xs ≡ x ∷ drop (i + 1) xs
-drop-next xs i x within is = drop_more xs i x within ∙ ap (λ y. y ∷ drop (i + 1) xs) (sym is)
-
--- one more part that was made
-pub made-next : {B : Type 0} (acc : List B) (y : B) (rest whole : List B) → acc ++ y ∷ rest ≡ whole → (acc ++ y ∷ []) ++ rest ≡ whole
-made-next acc y rest whole e = append_assoc acc (y ∷ []) rest ∙ e
+pub use Rattle.hl_layout.proofs.Parts.{drop-next, made-next}
 
 -- a step of `map`
 pub map-turn : {A B : Type 0} (f : A → B) (xs : List A) (i : ℕ) (x : A) (acc : List B) (whole : List B) → i < length xs → x ≡ get_or xs i x

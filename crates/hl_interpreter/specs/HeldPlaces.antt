@@ -26,7 +26,7 @@ plain_holder (Shared number) = in_shared number
 plain_holder (Element slot index) = in_element slot index
 
 abbrev pub plain_place : HeldPlace → Place
-plain_place p = record { holder = plain_holder p.holder; at = plain_reached p.at }
+plain_place p = record { holder = plain_holder p.holder; reached = plain_reached p.reached }
 
 -- the word of a step that is an index, and none of another step
 abbrev pub literal_of : PathPart → List ℕ

@@ -1,7 +1,7 @@
 -- The arguments of a call, as operands.
 use Rattle.std.specs.Prelude.{ℕ, List, [], ◌∷◌}
 use Rattle.hl_meaning.specs.Trees.{Arg, place_arg, place_type, value_arg}
-use Rattle.hl_source.specs.Expressions.{argument, value_of_words}
+use Rattle.hl_source.specs.Expressions.{argument_operands, value_of_words}
 use Rattle.hl_source.specs.Memory.{write_place}
 use Rattle.hl_source.specs.State.{Context, Progress, State, goes_with}
 use Rattle.hl_interpreter.specs.declared.expressions.PassedArgument.{PassedArgument}
@@ -16,7 +16,7 @@ abbrev pub operands_of : Passed → List (List ℕ)
 operands_of passed = interleaved passed.indexes passed.starts
 
 abbrev pub pair_of : PassedArgument → List (List ℕ)
-pair_of a = argument a.indexes a.start
+pair_of a = argument_operands a.indexes a.start
 
 -- the value of a parameter is written back where its argument is a place
 abbrev pub copies_if : Context → Arg → (indexes words : List ℕ) → State → Progress (List ℕ)

@@ -8,7 +8,7 @@ use Rattle.hl_meaning.specs.Trees.{Expr, Form, no_stmts}
 use Rattle.hl_meaning.specs.Types.{Ty, void_type}
 use Rattle.hl_meaning.specs.Views.{plain_constant, plain_function, plain_resource, plain_structs, plain_variable}
 use Rattle.hl_source.specs.Expressions.{acts, operands}
-use Rattle.hl_source.specs.SourceLane.{callee_of, grid_of}
+use Rattle.hl_source.specs.SourceLane.{callee_of, coordinates_of}
 use Rattle.hl_source.specs.State.{Callee, Context, Progress, State, after, ends_at, goes_with}
 use Rattle.hl_source.specs.Statements.{Doing, Leaving, at_end, by_break, by_continue, by_return, condition, leaves}
 use Rattle.hl_interpreter.specs.declared.expressions.Leaving.{Leaving as HeldLeaving}
@@ -24,8 +24,8 @@ use Rattle.hl_interpreter.specs.declared.state.State.{State as HeldState}
 -- the lane at a place; a program doesn't ask what private allocations start with
 abbrev pub lane_of : LanePlace → Lane
 lane_of place = record {
-  group = grid_of place.group;
-  thread = grid_of place.thread;
+  group = coordinates_of place.group;
+  thread = coordinates_of place.thread;
   lane_index = place.lane_index;
   wave_size = place.wave_size;
   start = [];

@@ -135,7 +135,7 @@ pub(crate) fn atomic_original(
             atomic_word(
                 run,
                 place.holder,
-                place.at.offset,
+                place.reached.offset,
                 kind,
                 compare,
                 word,

@@ -4,29 +4,30 @@ ghost use Rattle.std.specs.Prelude.{◌≡◌, ◌<◌, ℕ, List, get_or, lengt
 ghost use Rattle.hl_meaning.specs.declared.program.Parameter.{Parameter};
 ghost use Rattle.hl_meaning.specs.Trees.{place_type};
 ghost use Rattle.hl_meaning.specs.Views.{plain_arg, plain_args, plain_location};
-ghost use Rattle.hl_source.specs.Expressions.{copies_out, parameters_of, starts_with, value_of_words};
+ghost use Rattle.hl_source.specs.Expressions.{copies_in, copies_out, parameters_of, value_of_words};
 ghost use Rattle.hl_source.specs.Memory.{write_place};
 ghost use Rattle.hl_interpreter.specs.Operands.{copies_if, interleaved};
 ghost use Rattle.hl_interpreter.specs.Runs.{Does, Gives, context_of, state_of};
 
 use crate::components::{words_by_kind, zeros};
-use crate::layout::{kinds_of, words_of};
 use crate::memory::{read_place, write_place};
+use crate::places::kinds_of;
 use crate::run::{Context, Stop};
 use crate::state::State;
 use base_core::Words;
+use hl_layout::words_of;
 use hl_meaning::{Arg, Args, Copying, Location, Parameter};
 
-/// What a parameter starts with whose argument is a place: an `out` parameter with zeros, and an `inout` parameter with
-/// the value of the place.
-pub(crate) fn starts_with(
+/// Copy-in: the words that a parameter has at first whose argument is a place. An `out` parameter has zeros, and an
+/// `inout` parameter the value of the place.
+pub(crate) fn copies_in(
     context: &Context,
     copying: Copying,
     place: &Location,
     indexes: &[u32],
     state: &mut State,
 ) -> Result<Words, Stop>
-    ensures { Gives result (state_of context.now.run.now.replies.now state.new) (starts_with (context_of context.now) copying (plain_location place.now) indexes.now (state_of context.now.run.now.replies.now state.old)) }
+    ensures { Gives result (state_of context.now.run.now.replies.now state.new) (copies_in (context_of context.now) copying (plain_location place.now) indexes.now (state_of context.now.run.now.replies.now state.old)) }
 {
     match copying {
         Copying::CopyOut => {
@@ -67,7 +68,7 @@ fn copies_back(
     ensures { Does result (state_of context.now.run.now.replies.now state.new) (write_place (context_of context.now) (plain_location place.now) indexes.now (value_of_words (context_of context.now) (place_type (plain_location place.now)) words.now) (state_of context.now.run.now.replies.now state.old)) }
 {
     let run = context.run;
-    let kinds = kinds_of(run.alloc, run.program, &place.ty)?;
+    let kinds = kinds_of(run, &place.ty)?;
     let words = words_by_kind(run.alloc, kinds.as_slice(), words)?;
     write_place(context, place, indexes, words.as_slice(), state)
 }

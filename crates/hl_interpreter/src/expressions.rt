@@ -11,16 +11,16 @@ ghost use Rattle.hl_meaning.specs.Views.{plain_arg, plain_args, plain_expr, plai
 ghost use Rattle.hl_source.specs.Expressions.{argument_of, arguments, atomic_original, write_if, evaluates, indexes, indexes_if, no_callee, root_index, step_index, target_indexes, value_if, values};
 ghost use Rattle.hl_source.specs.Memory.{load_four, store_four};
 ghost use Rattle.hl_source.specs.Offsets.{slot_of};
-ghost use Rattle.hl_source.specs.SourceLane.{value_of};
+ghost use Rattle.hl_source.specs.SourceLane.{returned_value};
 ghost use Rattle.hl_source.specs.State.{State as PlainState, after, goes_with, no_value};
-ghost use Rattle.hl_source.specs.Statements.{Doing, computes_if, condition, condition_if, declares, does, does_all, returns, tested_turn, testing_turn, then_loop, turns};
+ghost use Rattle.hl_source.specs.Statements.{Doing, after_turn, computes_if, condition, condition_if, declares, do_turn, does, does_all, for_turn, returns, turns};
 ghost use Rattle.hl_interpreter.specs.Operands.{operands_of, pair_of};
 ghost use Rattle.hl_interpreter.specs.Runs.{Gives, Meets, callees_behind, context_of, form_value, loop_left, plain_leaving, run_context, state_of, tests};
 
 use crate::assignments::assigns;
 use crate::atomics::{atomic_original, write_original};
 use crate::buffers::{load_four, store_four};
-use crate::calling::{copies_out, copying_at, parameters_of, starts_with};
+use crate::calling::{copies_in, copies_out, copying_at, parameters_of};
 use crate::components::{
     binary_words, chosen_words, converted, first_words, one_word, unary_words, word_at,
 };
@@ -454,7 +454,7 @@ fn argument(
         }
         Arg::Place(place) => {
             let indexes = indexes(context, place, state)?;
-            let start = starts_with(context, copying, place, indexes.as_slice(), state)?;
+            let start = copies_in(context, copying, place, indexes.as_slice(), state)?;
             Ok(PassedArgument { indexes, start })
         }
     }
@@ -505,12 +505,12 @@ pub(crate) fn runs(
     };
     add_variables(run, function, state)?;
     let leaving = does_all(&context, &function.body, state)?;
-    Ok(value_of(run, leaving))
+    Ok(returned_value(run, leaving))
 }
 
 /// The value that a body is left with.
-fn value_of(run: &Run, leaving: Leaving) -> Words
-    ensures { result ≡ value_of (plain_leaving leaving) }
+fn returned_value(run: &Run, leaving: Leaving) -> Words
+    ensures { result ≡ returned_value (plain_leaving leaving) }
 {
     match leaving {
         Leaving::ByReturn(value) => value,
@@ -677,7 +677,7 @@ fn for_turns(
     body: &Stmt,
     state: &mut State,
 ) -> Result<Leaving, Stop>
-    ensures { Meets plain_leaving result (state_of context.now.run.now.replies.now state.new) (turns context.now.run.now.turns (tested_turn (context_of context.now) (option_map plain_expr cond.now) (λ s. does (context_of context.now) context.now.run.now.turns (plain_stmt body.now) s) (option_map plain_expr step.now)) (state_of context.now.run.now.replies.now state.old)) }
+    ensures { Meets plain_leaving result (state_of context.now.run.now.replies.now state.new) (turns context.now.run.now.turns (for_turn (context_of context.now) (option_map plain_expr cond.now) (λ s. does (context_of context.now) context.now.run.now.turns (plain_stmt body.now) s) (option_map plain_expr step.now)) (state_of context.now.run.now.replies.now state.old)) }
 {
     for _turn in 0..context.run.turns {
         let leaving = for_turn(context, cond, step, body, state)?;
@@ -690,7 +690,7 @@ fn for_turns(
 
 /// How a loop is left behind a turn that is left so, and none where another turn follows.
 fn behind_turn(leaving: Leaving) -> Option<Leaving>
-    ensures { (next : Doing) (s : PlainState) → then_loop next (plain_leaving leaving) s ≡ loop_left next result s }
+    ensures { (next : Doing) (s : PlainState) → after_turn next (plain_leaving leaving) s ≡ loop_left next result s }
 {
     match leaving {
         Leaving::AtEnd => None,
@@ -709,7 +709,7 @@ fn for_turn(
     body: &Stmt,
     state: &mut State,
 ) -> Result<Leaving, Stop>
-    ensures { Meets plain_leaving result (state_of context.now.run.now.replies.now state.new) (tested_turn (context_of context.now) (option_map plain_expr cond.now) (λ s. does (context_of context.now) context.now.run.now.turns (plain_stmt body.now) s) (option_map plain_expr step.now) (state_of context.now.run.now.replies.now state.old)) }
+    ensures { Meets plain_leaving result (state_of context.now.run.now.replies.now state.new) (for_turn (context_of context.now) (option_map plain_expr cond.now) (λ s. does (context_of context.now) context.now.run.now.turns (plain_stmt body.now) s) (option_map plain_expr step.now) (state_of context.now.run.now.replies.now state.old)) }
 {
     if !condition_if(context, cond, state)? {
         return Ok(Leaving::ByBreak);
@@ -748,7 +748,7 @@ fn while_turn(
     body: &Stmt,
     state: &mut State,
 ) -> Result<Leaving, Stop>
-    ensures { Meets plain_leaving result (state_of context.now.run.now.replies.now state.new) (tested_turn (context_of context.now) (Some (plain_expr cond.now)) (λ s. does (context_of context.now) context.now.run.now.turns (plain_stmt body.now) s) None (state_of context.now.run.now.replies.now state.old)) }
+    ensures { Meets plain_leaving result (state_of context.now.run.now.replies.now state.new) (for_turn (context_of context.now) (Some (plain_expr cond.now)) (λ s. does (context_of context.now) context.now.run.now.turns (plain_stmt body.now) s) None (state_of context.now.run.now.replies.now state.old)) }
 {
     if !condition(context, cond, state)? {
         return Ok(Leaving::ByBreak);
@@ -776,7 +776,7 @@ fn do_loop(context: &Context, body: &Stmt, cond: &Expr, state: &mut State) -> Re
 /// A turn of a `do`: the body, and then the condition, also where the body continues.
 #[cycle(running)]
 fn do_turn(context: &Context, body: &Stmt, cond: &Expr, state: &mut State) -> Result<Leaving, Stop>
-    ensures { Meets plain_leaving result (state_of context.now.run.now.replies.now state.new) (testing_turn (context_of context.now) (λ s. does (context_of context.now) context.now.run.now.turns (plain_stmt body.now) s) (plain_expr cond.now) (state_of context.now.run.now.replies.now state.old)) }
+    ensures { Meets plain_leaving result (state_of context.now.run.now.replies.now state.new) (do_turn (context_of context.now) (λ s. does (context_of context.now) context.now.run.now.turns (plain_stmt body.now) s) (plain_expr cond.now) (state_of context.now.run.now.replies.now state.old)) }
 {
     match does(context, body, state)? {
         Leaving::AtEnd => tests(context, cond, state),

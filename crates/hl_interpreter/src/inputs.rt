@@ -5,7 +5,7 @@ ghost use Rattle.hl_meaning.specs.Held.{plain_program};
 ghost use Rattle.hl_meaning.specs.Places.{variable_type};
 ghost use Rattle.hl_meaning.specs.Types.{component_count, void_type};
 ghost use Rattle.hl_meaning.specs.Views.{plain_variable};
-ghost use Rattle.hl_source.specs.SourceLane.{components, dispatch_thread, flat_index, grid_of, input_words, inputs, semantic_components};
+ghost use Rattle.hl_source.specs.SourceLane.{components, coordinates_of, dispatch_thread, flat_index, input_words, inputs, semantic_components};
 ghost use Rattle.lane_core.specs.Words.{wrapped};
 ghost use Rattle.hl_interpreter.specs.Runs.{lane_of};
 
@@ -18,7 +18,7 @@ use std::alloc::Global;
 
 /// A thread's number in its group.
 fn flat_index(threads: [u32; 3], thread: [u32; 3]) -> u32
-    ensures { result ≡ wrapped (flat_index (grid_of threads) (grid_of thread)) }
+    ensures { result ≡ wrapped (flat_index (coordinates_of threads) (coordinates_of thread)) }
 {
     let plane = threads[0].wrapping_mul(threads[1]);
     let planes = thread[2].wrapping_mul(plane);
@@ -28,7 +28,7 @@ fn flat_index(threads: [u32; 3], thread: [u32; 3]) -> u32
 
 /// A thread's place in the whole dispatch: its group times the threads of a group, and its place in the group.
 fn dispatch_thread(threads: [u32; 3], lane: &LanePlace) -> [u32; 3]
-    ensures { result ≡ map wrapped (components (dispatch_thread (grid_of threads) (lane_of lane.now).group (lane_of lane.now).thread)) }
+    ensures { result ≡ map wrapped (components (dispatch_thread (coordinates_of threads) (lane_of lane.now).group (lane_of lane.now).thread)) }
 {
     [
         lane.group[0]
@@ -45,7 +45,7 @@ fn dispatch_thread(threads: [u32; 3], lane: &LanePlace) -> [u32; 3]
 
 /// The words of a place in a grid.
 fn place_words(alloc: Global, place: [u32; 3]) -> Result<Words, NoMemory>
-    ensures { IfOk result (λ words. words ≡ map wrapped (components (grid_of place))) }
+    ensures { IfOk result (λ words. words ≡ map wrapped (components (coordinates_of place))) }
 {
     three_words(alloc, place[0], place[1], place[2])
 }
@@ -64,7 +64,7 @@ fn components_of(
     lane: &LanePlace,
     semantic: Semantic,
 ) -> Result<Words, NoMemory>
-    ensures { IfOk result (λ words. words ≡ map wrapped (semantic_components (grid_of threads) (lane_of lane.now) (Some semantic))) }
+    ensures { IfOk result (λ words. words ≡ map wrapped (semantic_components (coordinates_of threads) (lane_of lane.now) (Some semantic))) }
 {
     match semantic {
         Semantic::DispatchThreadId => { Words::from_slice(alloc, &dispatch_thread(threads, lane)) }
@@ -81,7 +81,7 @@ fn semantic_words(
     lane: &LanePlace,
     semantic: Option<Semantic>,
 ) -> Result<Words, NoMemory>
-    ensures { IfOk result (λ words. words ≡ map wrapped (semantic_components (grid_of threads) (lane_of lane.now) semantic)) }
+    ensures { IfOk result (λ words. words ≡ map wrapped (semantic_components (coordinates_of threads) (lane_of lane.now) semantic)) }
 {
     match semantic {
         Some(semantic) => components_of(alloc, threads, lane, semantic),

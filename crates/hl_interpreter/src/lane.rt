@@ -5,7 +5,7 @@ ghost use Rattle.hl_meaning.specs.Held.{plain_program};
 ghost use Rattle.hl_meaning.specs.Slots.{slots_of};
 ghost use Rattle.hl_meaning.specs.Views.{plain_function, plain_resource};
 ghost use Rattle.hl_source.specs.Expressions.{no_callee};
-ghost use Rattle.hl_source.specs.SourceLane.{ended, source_lane};
+ghost use Rattle.hl_source.specs.SourceLane.{entry_run, source_lane};
 ghost use Rattle.lane_core.specs.Lane.{standing};
 ghost use Rattle.hl_interpreter.specs.Runs.{callees_behind, lane_of, run_of, state_of};
 
@@ -15,6 +15,7 @@ use crate::run::{LanePlace, Run, Stop};
 use crate::slots::slots_of;
 use crate::state::State;
 use base_core::{NoMemory, Sequence};
+use hl_layout::struct_kinds;
 use hl_meaning::Program;
 use lane_core::{Asked, Event, Reply, Slot};
 use std::alloc::Global;
@@ -55,9 +56,11 @@ fn run_in(
     requires { slots.now ≡ slots_of (map plain_resource program.now.resources) }
     ensures { IfOk result (λ run. source_lane (plain_program program.now) turns (lane_of lane.now) replies.now ≡ Some (run_of run)) }
 {
+    let kinds = struct_kinds(alloc, program.structs.as_slice())?;
     let run = Run {
         alloc,
         program,
+        kinds: kinds.as_slice(),
         slots,
         lane,
         replies,
@@ -75,7 +78,7 @@ fn run_in(
 
 /// Where the run of the entry ends.
 fn run_entry(run: &Run, state: &mut State) -> Result<Asked, NoMemory>
-    ensures { IfOk result (λ outcome. ended (slice_index_or (callees_behind run.now [] [] (map plain_function run.now.program.now.functions)) run.now.program.now.entry no_callee
+    ensures { IfOk result (λ outcome. entry_run (slice_index_or (callees_behind run.now [] [] (map plain_function run.now.program.now.functions)) run.now.program.now.entry no_callee
         state.old.variables.items (state_of run.now.replies.now state.old).exchange) ≡ standing (state_of run.now.replies.now state.new).exchange outcome) }
 {
     let functions = run.program.functions.as_slice();

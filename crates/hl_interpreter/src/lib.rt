@@ -13,7 +13,6 @@ mod expressions;
 mod inputs;
 mod intrinsics;
 mod lane;
-mod layout;
 mod memory;
 mod operations;
 mod places;

@@ -24,7 +24,7 @@ use hl_meaning::Location;
 fn value_of(run: &Run, at: Reached, words: &[u32]) -> Result<Words, NoMemory>
     ensures { IfOk result (λ value. value ≡ picked at.entry.letters.now (map_2 word_as (kinds_of (plain_structs run.now.program.now.structs) (plain_type at.entry.ty)) words.now)) }
 {
-    let kinds = reached_kinds(run.alloc, run.program, at.ty)?;
+    let kinds = reached_kinds(run, at.ty)?;
     let value = words_by_kind(run.alloc, kinds.as_slice(), words)?;
     picked(run.alloc, at.letters, value.as_slice())
 }
@@ -96,7 +96,7 @@ pub(crate) fn read_place(
     ensures { Gives result (state_of context.now.run.now.replies.now state.new) (read_place (context_of context.now) (plain_location location.now) indexes.now (state_of context.now.run.now.replies.now state.old)) }
 {
     let place = place_of(context, location, indexes)?;
-    read_reached(context, place.holder, place.at, state)
+    read_reached(context, place.holder, place.reached, state)
 }
 
 /// A value written to a place, with the words of its indexes.
@@ -111,5 +111,5 @@ pub(crate) fn write_place(
     ensures { Does result (state_of context.now.run.now.replies.now state.new) (write_place (context_of context.now) (plain_location location.now) indexes.now words.now (state_of context.now.run.now.replies.now state.old)) }
 {
     let place = place_of(context, location, indexes)?;
-    write_letters(context, place.holder, place.at, words, state)
+    write_letters(context, place.holder, place.reached, words, state)
 }

@@ -6,16 +6,16 @@ ghost use Rattle.hl_meaning.specs.Places.{element_type, root_type, variable_type
 ghost use Rattle.hl_meaning.specs.Trees.{PathParts, more_parts};
 ghost use Rattle.hl_meaning.specs.Types.{struct_type, void_type};
 ghost use Rattle.hl_meaning.specs.Views.{plain_constant, plain_expr, plain_location, plain_member, plain_part, plain_parts, plain_resource, plain_root, plain_structs, plain_ty, plain_variable};
-ghost use Rattle.hl_source.specs.Offsets.{at_index, at_member, at_swizzle, element_of, further, holder_of, indexes_of_steps, literal_indexes, literal_word, member_of, picked_words, place_of, reached, slot_of, start_of};
+ghost use Rattle.hl_source.specs.Offsets.{element_of, further, holder_of, indexes_of_steps, literal_indexes, literal_word, member_of, picked_words, place_of, reached, slot_of, start_of, step_to_element, step_to_letters, step_to_member};
 ghost use Rattle.hl_source.specs.Operations.{component_kind};
 ghost use Rattle.hl_interpreter.specs.HeldPlaces.{index_count, literal_of, plain_holder, plain_place, plain_reached, plain_type};
 ghost use Rattle.hl_interpreter.specs.Runs.{context_of, run_context};
 
 use crate::components::{picked, word_at};
-use crate::layout::{Kinds, kinds_of, words_of};
 use crate::operations::component_kind;
 use crate::run::{Context, Run};
 use base_core::{NoMemory, Sequence, Words};
+use hl_layout::{Kinds, kinds_in, words_of};
 use hl_meaning::{
     Constant, Expr, Form, HlType, Kind, Location, Member, PathPart, Program, Resource, Root,
     StructDef, Variable,
@@ -53,7 +53,7 @@ pub(crate) enum Holder {
 #[derive(Clone, Copy)]
 pub(crate) struct Place<'a> {
     pub holder: Holder,
-    pub at: Reached<'a>,
+    pub reached: Reached<'a>,
 }
 
 /// The start of something of a type.
@@ -92,22 +92,25 @@ pub(crate) fn reached_words(program: &Program, ty: ReachedType) -> Result<u32, N
     }
 }
 
+/// The kinds of the words of a type.
+pub(crate) fn kinds_of(run: &Run, ty: &HlType) -> Result<Kinds, NoMemory>
+    ensures { IfOk result (λ kinds. kinds ≡ kinds_of (plain_structs run.now.program.now.structs) (plain_ty ty.now)) }
+{
+    kinds_in(run.alloc, run.kinds, ty)
+}
+
 /// The kinds of the words of what was reached.
-pub(crate) fn reached_kinds(
-    alloc: Global,
-    program: &Program,
-    ty: ReachedType,
-) -> Result<Kinds, NoMemory>
-    ensures { IfOk result (λ kinds. kinds ≡ kinds_of (plain_structs program.now.structs) (plain_type ty.entry)) }
+pub(crate) fn reached_kinds(run: &Run, ty: ReachedType) -> Result<Kinds, NoMemory>
+    ensures { IfOk result (λ kinds. kinds ≡ kinds_of (plain_structs run.now.program.now.structs) (plain_type ty.entry)) }
 {
     match ty {
-        ReachedType::Held(ty) => kinds_of(alloc, program, ty),
+        ReachedType::Held(ty) => kinds_of(run, ty),
         ReachedType::Component(kind) => {
-            let mut kinds = Sequence::new(alloc);
+            let mut kinds = Sequence::new(run.alloc);
             kinds.push(kind)?;
             Ok(kinds)
         }
-        ReachedType::Nothing => Ok(Sequence::new(alloc)),
+        ReachedType::Nothing => Ok(Sequence::new(run.alloc)),
     }
 }
 
@@ -164,8 +167,8 @@ fn struct_member<'a>(
 }
 
 /// A member stands at its offset in its struct.
-fn at_member<'a>(program: &'a Program, from: Reached<'a>, number: u32) -> Reached<'a>
-    ensures { plain_reached result ≡ at_member (plain_reached from.entry) (member_of (plain_structs program.now.structs) (plain_type from.entry.ty) number) }
+fn step_to_member<'a>(program: &'a Program, from: Reached<'a>, number: u32) -> Reached<'a>
+    ensures { plain_reached result ≡ step_to_member (plain_reached from.entry) (member_of (plain_structs program.now.structs) (plain_type from.entry.ty) number) }
 {
     match member_of(program, from.ty, number) {
         Some(member) => further(from, ReachedType::Held(&member.ty), member.offset),
@@ -195,12 +198,12 @@ fn held_element<'a>(ty: &'a HlType) -> ReachedType<'a>
 }
 
 /// An element stands at its index times the words of an element.
-fn at_index<'a>(
+fn step_to_element<'a>(
     program: &'a Program,
     from: Reached<'a>,
     index: u32,
 ) -> Result<Reached<'a>, NoMemory>
-    ensures { IfOk result (λ there. plain_reached there ≡ at_index (plain_structs program.now.structs) (plain_reached from.entry) index) }
+    ensures { IfOk result (λ there. plain_reached there ≡ step_to_element (plain_structs program.now.structs) (plain_reached from.entry) index) }
 {
     let element = element_of(from.ty);
     let words = reached_words(program, element)?;
@@ -208,8 +211,8 @@ fn at_index<'a>(
 }
 
 /// A swizzle of one letter leads to the component of the letter; a longer one stays at its vector.
-fn at_swizzle<'a>(from: Reached<'a>, letters: &'a [u8]) -> Reached<'a>
-    ensures { plain_reached result ≡ at_swizzle (plain_reached from.entry) letters.now }
+fn step_to_letters<'a>(from: Reached<'a>, letters: &'a [u8]) -> Reached<'a>
+    ensures { plain_reached result ≡ step_to_letters (plain_reached from.entry) letters.now }
 {
     if letters.len() == 1 {
         let kind = reached_kind(from.ty);
@@ -235,9 +238,9 @@ fn stepped<'a>(
         ≡ reached (plain_structs program.now.structs) (plain_reached there) rest (drop (index_count (plain_part part.now)) indexes)) }
 {
     match part {
-        PathPart::Member(number) => Ok(at_member(program, from, *number)),
-        PathPart::Index(_) => at_index(program, from, index),
-        PathPart::Swizzle(letters) => Ok(at_swizzle(from, letters.as_slice())),
+        PathPart::Member(number) => Ok(step_to_member(program, from, *number)),
+        PathPart::Index(_) => step_to_element(program, from, index),
+        PathPart::Swizzle(letters) => Ok(step_to_letters(from, letters.as_slice())),
     }
 }
 
@@ -384,7 +387,7 @@ pub(crate) fn place_of<'a>(
     let at = steps_to(context.run.program, start, location.parts.as_slice(), steps)?;
     Ok(Place {
         holder: holder_of(context.run, &location.root, indexes),
-        at,
+        reached: at,
     })
 }
 

@@ -8,11 +8,11 @@ ghost use Rattle.hl_interpreter.specs.HeldPlaces.{plain_holder};
 ghost use Rattle.hl_interpreter.specs.Runs.{Gives, Meets, context_of, run_context, state_of};
 
 use crate::buffers::load_words;
-use crate::layout::words_of;
 use crate::places::Holder;
 use crate::run::{Context, Run, Stop};
 use crate::state::{State, asks_word};
 use base_core::{NoMemory, Words};
+use hl_layout::words_of;
 use lane_core::{Cell, Event, LaneFault};
 use std::alloc::Global;
 

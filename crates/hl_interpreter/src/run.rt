@@ -1,6 +1,11 @@
 //! What stays the same while a lane runs, and while one of its functions does.
 
+ghost use Rattle.std.specs.Prelude.{◌≡◌, []};
+ghost use Rattle.hl_meaning.specs.Layout.{struct_kinds_after};
+ghost use Rattle.hl_meaning.specs.Views.{plain_structs};
+
 use base_core::NoMemory;
+use hl_layout::Kinds;
 use hl_meaning::{FunctionDef, Program};
 use lane_core::{Asked, LaneFault, Reply, Slot};
 use std::alloc::{AllocFailed, Global};
@@ -14,16 +19,18 @@ pub struct LanePlace {
     pub wave_size: u32,
 }
 
-/// What stays the same while a lane runs: the program, the slots of its buffers, the lane, the replies, and how many
-/// turns each loop may take.
+/// What stays the same while a lane runs: the program, the kinds of the words of each of its structs, the slots of its
+/// buffers, the lane, the replies, and how many turns each loop may take.
 #[derive(Clone, Copy)]
 pub(crate) struct Run<'a> {
     pub alloc: Global,
     pub program: &'a Program,
+    pub kinds: &'a [Kinds],
     pub slots: &'a [Slot],
     pub lane: &'a LanePlace,
     pub replies: &'a [Reply],
     pub turns: u64,
+    pub ghost known: { kinds.now ≡ struct_kinds_after [] (plain_structs program.now.structs) },
 }
 
 /// What stays the same while a function runs: the functions before it, which it can call, and itself.

@@ -6,10 +6,10 @@ ghost use Rattle.hl_source.specs.Memory.{zeros_of};
 ghost use Rattle.hl_interpreter.specs.Runs.{run_context};
 
 use crate::components::zeros;
-use crate::layout::words_of;
 use crate::run::Run;
 use crate::state::State;
 use base_core::{NoMemory, Words};
+use hl_layout::words_of;
 use hl_meaning::FunctionDef;
 use std::alloc::Global;
 

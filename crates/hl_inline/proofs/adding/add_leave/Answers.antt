@@ -1,5 +1,5 @@
 use Rattle.hl_inline.proofs.FlatPlain.{plain_flat_stmt-Leave}
-use Rattle.hl_inline.proofs.LayingLemmas.{added}
+use Rattle.hl_inline.proofs.EmittedParts.{added}
 use Rattle.hl_inline.proofs.adding.add_leave.Goals as goal
 
 pub returns : goal.returns

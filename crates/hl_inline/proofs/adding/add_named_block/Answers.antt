@@ -2,7 +2,7 @@ use Rattle.std.proofs.Common.{◌∙◌, ap}
 use Rattle.hl_inline.specs.FlatTrees.{flat_named}
 use Rattle.hl_inline.specs.FlatViews.{plain_flat_stmt}
 use Rattle.hl_inline.proofs.FlatPlain.{plain_flat_stmt-Block, plain_flat_stmt-Named}
-use Rattle.hl_inline.proofs.LayingLemmas.{added}
+use Rattle.hl_inline.proofs.EmittedParts.{added}
 use Rattle.hl_inline.proofs.adding.add_named_block.Goals as goal
 
 pub returns : goal.returns

@@ -1,5 +1,5 @@
 use Rattle.hl_inline.proofs.FlatPlain.{plain_flat_stmt-Run}
-use Rattle.hl_inline.proofs.LayingLemmas.{added}
+use Rattle.hl_inline.proofs.EmittedParts.{added}
 use Rattle.hl_inline.proofs.adding.add_run.Goals as goal
 
 pub returns : goal.returns

@@ -1,6 +1,6 @@
 use Rattle.std.proofs.Common.{Some}
 use Rattle.hl_inline.proofs.FlatPlain.{plain_flat_stmt-Local}
-use Rattle.hl_inline.proofs.LayingLemmas.{added}
+use Rattle.hl_inline.proofs.EmittedParts.{added}
 use Rattle.hl_inline.proofs.adding.add_set.Goals as goal
 
 pub returns : goal.returns

@@ -2,7 +2,8 @@ use Rattle.std.proofs.Common.{◌∙◌, ap, map, suc}
 use Rattle.std.proofs.lemmas.Result.{on_ok_weaker}
 use Rattle.hl_meaning.specs.Views.{plain_ty, plain_variable}
 use Rattle.hl_inline.specs.Building.{plain_fresh}
-use Rattle.hl_inline.specs.Flattening.{Fresh, result_variables, with_variables}
+use Rattle.hl_inline.specs.Fresh.{Fresh, nameless, with_variables}
+use Rattle.hl_inline.specs.InlinedCalls.{result_variables}
 use Rattle.hl_inline.proofs.Growing.{variables-then}
 use Rattle.hl_inline.proofs.calling.add_instance.Goals as goal
 
@@ -16,7 +17,7 @@ returns c = λ k.
     on_ok_weaker c.add_result.result
     (λ e. e ∙
     (ap (with_variables result)
-    (c.in_ok-add_copies.ensures ∙
-    (ap (with_variables (map plain_variable c.as_slice.result.now)) c.in_ok-take_name.ensures.fresh ∙ ap (λ l. with_variables (map plain_variable l) first) c.as_slice.ensures.value)) ∙
-    variables-then (map plain_variable c.args.callee.now.variables) result first))
+    (c.in_ok-add_nameless.ensures ∙
+    (ap (with_variables (map nameless (map plain_variable c.as_slice.result.now))) c.in_ok-take_name.ensures.fresh ∙ ap (λ l. with_variables (map nameless (map plain_variable l)) first) c.as_slice.ensures.value)) ∙
+    variables-then (map nameless (map plain_variable c.args.callee.now.variables)) result first))
     c.add_result.ensures

@@ -3,7 +3,7 @@ use Rattle.hl_meaning.specs.Trees.{place_type, write_form}
 use Rattle.hl_meaning.specs.Views.{plain_expr, plain_location}
 use Rattle.hl_meaning.proofs.Plain.{plain_form-Write}
 use Rattle.hl_inline.specs.FlatTrees.{flat_run}
-use Rattle.hl_inline.specs.Flattening.{reading}
+use Rattle.hl_inline.specs.Emitting.{reading}
 use Rattle.hl_inline.proofs.Callees.{place_type-is}
 use Rattle.hl_inline.proofs.FlatPlain.{plain_flat_stmt-Run}
 use Rattle.hl_inline.proofs.GivenForms.{expr-as}

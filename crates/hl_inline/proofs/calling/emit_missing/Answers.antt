@@ -5,7 +5,8 @@ use Rattle.hl_meaning.specs.Views.{plain_form, plain_ty}
 use Rattle.hl_inline.specs.Building.{plain_code, plain_fresh, valued}
 use Rattle.hl_inline.specs.FlatTrees.{flat_block, flat_named}
 use Rattle.hl_inline.specs.FlatViews.{flat_stmts_of}
-use Rattle.hl_inline.specs.Flattening.{result_variables, with_variables}
+use Rattle.hl_inline.specs.Fresh.{with_variables}
+use Rattle.hl_inline.specs.InlinedCalls.{result_variables}
 use Rattle.hl_inline.proofs.Callees.{missing-call}
 use Rattle.hl_inline.proofs.calling.emit_missing.Goals as goal
 

@@ -3,7 +3,7 @@ use Rattle.hl_meaning.specs.Layout.{kinds_of}
 use Rattle.hl_meaning.specs.Trees.{build_form}
 use Rattle.hl_meaning.specs.Views.{exprs_of, plain_ty}
 use Rattle.hl_meaning.proofs.Plain.{plain_form-Build}
-use Rattle.hl_inline.specs.Flattening.{literals}
+use Rattle.hl_inline.specs.InlinedPrograms.{literals}
 use Rattle.hl_inline.proofs.GivenForms.{expr-as}
 use Rattle.hl_inline.proofs.Growing.{kinds-known}
 use Rattle.hl_inline.proofs.constants.constant_value.Goals as goal

@@ -4,7 +4,7 @@ use Rattle.hl_meaning.specs.Trees.{an_expr, literal_form}
 use Rattle.hl_meaning.specs.Types.{scalar_type}
 use Rattle.hl_meaning.specs.Views.{plain_expr}
 use Rattle.hl_meaning.proofs.Plain.{plain_form-Literal, plain_ty-Scalar}
-use Rattle.hl_inline.specs.Flattening.{literals}
+use Rattle.hl_inline.specs.InlinedPrograms.{literals}
 use Rattle.hl_inline.proofs.Gathering.{made-next, mapped-more}
 use Rattle.hl_inline.proofs.GivenForms.{expr-as}
 use Rattle.hl_inline.proofs.Growing.{literals-next, literals-over}

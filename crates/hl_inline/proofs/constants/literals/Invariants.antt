@@ -1,6 +1,6 @@
 use Rattle.std.proofs.Common.{◌≡◌, ◌++◌, drop, map}
 use Rattle.hl_meaning.specs.Views.{plain_expr}
-use Rattle.hl_inline.specs.Flattening.{literals}
+use Rattle.hl_inline.specs.InlinedPrograms.{literals}
 use Rattle.hl_inline.proofs.constants.literals.Given as goal
 
 abbrev pub invariant-loop-index : goal.invariant-loop-index

@@ -2,7 +2,7 @@ use Rattle.std.proofs.Common.{◌∙◌, [], ◌++◌, ap, append-nil, map, refl
 use Rattle.hl_meaning.specs.Layout.{struct_kinds_after}
 use Rattle.hl_meaning.specs.Views.{plain_constant, plain_structs}
 use Rattle.hl_inline.specs.Building.{plain_code}
-use Rattle.hl_inline.specs.Flattening.{set_constants}
+use Rattle.hl_inline.specs.InlinedPrograms.{set_constants}
 use Rattle.hl_inline.proofs.constants.set_constants.Goals as goal
 
 pub returns-then-is_empty : goal.returns-then-is_empty

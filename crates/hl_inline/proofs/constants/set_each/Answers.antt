@@ -3,7 +3,7 @@ use Rattle.hl_meaning.specs.Views.{plain_constant}
 use Rattle.hl_inline.specs.Building.{plain_code}
 use Rattle.hl_inline.specs.FlatTrees.{flat_local}
 use Rattle.hl_inline.specs.FlatViews.{plain_flat_stmt}
-use Rattle.hl_inline.specs.Flattening.{set_constants}
+use Rattle.hl_inline.specs.InlinedPrograms.{set_constants}
 use Rattle.hl_inline.proofs.FlatPlain.{plain_flat_stmt-Local}
 use Rattle.hl_inline.proofs.Gathering.{mapped-more}
 use Rattle.hl_inline.proofs.Growing.{constants-end, constants-next}

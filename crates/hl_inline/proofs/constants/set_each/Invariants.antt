@@ -3,7 +3,7 @@ use Rattle.hl_meaning.specs.Layout.{struct_kinds_after}
 use Rattle.hl_meaning.specs.Programs.{StructDef}
 use Rattle.hl_meaning.specs.Views.{plain_constant}
 use Rattle.hl_inline.specs.Building.{plain_code}
-use Rattle.hl_inline.specs.Flattening.{set_constants}
+use Rattle.hl_inline.specs.InlinedPrograms.{set_constants}
 use Rattle.hl_inline.proofs.constants.set_each.Given as goal
 
 abbrev pub invariant-loop-number : goal.invariant-loop-number

@@ -3,7 +3,7 @@ use Rattle.std.proofs.lemmas.List.{get_or_default}
 use Rattle.hl_meaning.specs.declared.program.Copying.TheVariants.{CopyIn}
 use Rattle.hl_meaning.specs.declared.program.Parameter.{Parameter}
 use Rattle.hl_inline.specs.Building.{plain_code}
-use Rattle.hl_inline.specs.Flattening.{set_inputs}
+use Rattle.hl_inline.specs.InlinedPrograms.{set_inputs}
 use Rattle.hl_inline.proofs.Growing.{given-end, given-next, inputs-first}
 use Rattle.hl_inline.proofs.entry.set_inputs.Goals as goal
 

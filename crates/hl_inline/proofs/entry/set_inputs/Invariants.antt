@@ -1,6 +1,6 @@
 use Rattle.std.proofs.Common.{◌≡◌, ◌++◌, drop}
 use Rattle.hl_inline.specs.Building.{plain_code}
-use Rattle.hl_inline.specs.Flattening.{set_inputs}
+use Rattle.hl_inline.specs.InlinedPrograms.{set_inputs}
 use Rattle.hl_inline.proofs.entry.set_inputs.Given as goal
 
 abbrev pub invariant-loop-parameter : goal.invariant-loop-parameter

@@ -3,8 +3,10 @@ use Rattle.std.proofs.lemmas.List.{length-map}
 use Rattle.hl_meaning.specs.Held.{plain_program}
 use Rattle.hl_meaning.specs.Views.{plain_constant, plain_function, plain_resource, plain_struct, plain_variable}
 use Rattle.hl_inline.specs.Building.{constant_variables, inlined_all, plain_code, plain_fresh}
-use Rattle.hl_inline.specs.Flattening.{entry_of, inlined}
-use Rattle.hl_inline.proofs.Entered.{entry-is, entry_there, flat-around, flat-parts, flattened-as, started}
+use Rattle.hl_inline.specs.Fresh.{nameless}
+use Rattle.hl_inline.specs.InlinedFunctions.{inlined}
+use Rattle.hl_inline.specs.InlinedPrograms.{inlined_entry}
+use Rattle.hl_inline.proofs.Entered.{entry-is, entry_there, flat-around, flat-parts, inlined_program-as, started}
 use Rattle.hl_inline.proofs.inlining.flat_parts.Goals as goal
 
 pub bounds-functions-number : goal.bounds-functions-number
@@ -31,9 +33,9 @@ returns c =
     let code = plain_code c.in_ok-body.body in
     let within : held.entry < length functions =
     omega (arith, entry_there p held.well_formed, length-map held.functions plain_function, ap length c.as_slice-functions.ensures.value) in
-    let called : entry_of p ≡ inlined k d = entry-is held.functions functions held.entry entry (sym c.as_slice-functions.ensures.value) within c.index-functions-number.is in
+    let called : inlined_entry p ≡ inlined k d = entry-is held.functions functions held.entry entry (sym c.as_slice-functions.ensures.value) within c.index-functions-number.is in
     flat-parts p (map plain_struct c.in_ok-structs.structs) now.variables (map plain_resource c.in_ok-resources.resources) (map plain_variable c.in_ok-shared.shared) code
     c.in_ok-structs.ensures c.in_ok-resources.ensures c.in_ok-shared.ensures ∙
     (sym (flat-around p d k fresh now code
-    (c.in_ok-fresh.ensures ∙ ap (λ l. started (constant_variables (map plain_constant l)) (map plain_variable entry.variables)) c.as_slice.ensures.value) c.in_ok-body.ensures) ∙
-    sym (flattened-as p (inlined k d) called))
+    (c.in_ok-fresh.ensures ∙ ap (λ l. started (constant_variables (map plain_constant l)) (map nameless (map plain_variable entry.variables))) c.as_slice.ensures.value) c.in_ok-body.ensures) ∙
+    sym (inlined_program-as p (inlined k d) called))

@@ -3,7 +3,7 @@ use Rattle.hl_meaning.specs.Views.{plain_expr}
 use Rattle.hl_inline.specs.Building.{plain_code}
 use Rattle.hl_inline.specs.FlatTrees.{flat_if}
 use Rattle.hl_inline.specs.FlatViews.{plain_flat_stmt, plain_maybe_flat_stmt}
-use Rattle.hl_inline.specs.Flattening.{as_one}
+use Rattle.hl_inline.specs.EmittedCode.{as_one}
 use Rattle.hl_inline.proofs.FlatPlain.{plain_flat_stmt-If}
 use Rattle.hl_inline.proofs.made.choice.Goals as goal
 

@@ -18,7 +18,7 @@ returns-in_ok-place-in-Place c =
     let context = context_of c.args.context.now in
     let s = state_of c.args.context.now.run.now.replies.now c.args.state.now in
     same (λ w. w) c.atomic_word.result _ _ _
-    (ap (λ (p : Place). atomic_word context p.holder p.at.offset c.args.kind c.args.compare c.args.word s) c.in_ok-place-in-Place.ensures ∙
+    (ap (λ (p : Place). atomic_word context p.holder p.reached.offset c.args.kind c.args.compare c.args.word s) c.in_ok-place-in-Place.ensures ∙
     sym (ap (λ t. atomic_original context t c.args.kind c.args.indexes.now c.args.compare c.args.word s) (ap plain_target c.in-Place.is ∙ plain_target-Place c.in-Place.location)))
     c.atomic_word.ensures
 

@@ -12,14 +12,14 @@ use Rattle.hl_meaning.specs.declared.statement.Stmt.TheVariants as Stmt_variants
 use Rattle.hl_meaning.specs.Trees.{atomic_form, binary_form, build_form, call_form, choose_form, convert_form, do_stmt, intrinsic_form, literal_form, method_form, pick_form, read_form, type_of, unary_form, while_stmt, write_form}
 use Rattle.hl_meaning.specs.Views.{plain_arg, plain_args, plain_expr, plain_exprs, plain_function, plain_location, plain_maybe_expr, plain_maybe_location, plain_maybe_stmt, plain_part, plain_parts, plain_root, plain_stmt, plain_stmts, plain_target, plain_ty}
 use Rattle.hl_meaning.proofs.Plain.{plain_arg-Place, plain_arg-Value, plain_form-Atomic, plain_form-Binary, plain_form-Build, plain_form-Call, plain_form-Choose, plain_form-Convert, plain_form-Intrinsic, plain_form-Literal, plain_form-Method, plain_form-Pick, plain_form-Read, plain_form-Unary, plain_form-Write, plain_part-Index, plain_root-Element, plain_stmt-Block, plain_stmt-Break, plain_stmt-Continue, plain_stmt-Do, plain_stmt-For, plain_stmt-If, plain_stmt-Local, plain_stmt-Return, plain_stmt-Run, plain_stmt-While, plain_target-Bytes, plain_target-Place}
-use Rattle.hl_source.specs.Expressions.{argument, argument_of, arguments, assigns, copies_out, evaluates, indexes, indexes_if, no_callee, root_index, starts_with, step_index, step_indexes, target_indexes, value_if, values}
+use Rattle.hl_source.specs.Expressions.{argument_of, argument_operands, arguments, assigns, copies_in, copies_out, evaluates, indexes, indexes_if, no_callee, root_index, step_index, step_indexes, target_indexes, value_if, values}
 use Rattle.hl_source.specs.Intrinsics.{work_of, worked}
 use Rattle.hl_source.specs.Memory.{load_four, read_place}
 use Rattle.hl_source.specs.Offsets.{picked_words, slot_of}
 use Rattle.hl_source.specs.Operations.{binary_words, chosen_word, component_kind, converted, map_3, unary_word}
-use Rattle.hl_source.specs.SourceLane.{value_of}
+use Rattle.hl_source.specs.SourceLane.{returned_value}
 use Rattle.hl_source.specs.State.{after, gives, goes_with, with_variable}
-use Rattle.hl_source.specs.Statements.{at_end, by_return, computes_if, condition, condition_if, declares, does, does_all, does_if, returns, tested_turn, testing_turn, turns}
+use Rattle.hl_source.specs.Statements.{at_end, by_return, computes_if, condition, condition_if, declares, do_turn, does, does_all, does_if, for_turn, returns, turns}
 use Rattle.hl_interpreter.specs.declared.expressions.Leaving.TheVariants.{AtEnd}
 use Rattle.hl_interpreter.specs.Operands.{interleaved, operands_of, pair_of}
 use Rattle.hl_interpreter.specs.Runs.{callees_behind, context_behind, context_of, form_value, loop_left, plain_leaving, run_context, state_of}
@@ -35,7 +35,7 @@ use Rattle.hl_interpreter.proofs.Indexing.{no-root_index, no-step_index, place-r
 use Rattle.hl_interpreter.proofs.Meeting.{behind, behind-end, behind-none, goes, same, stops}
 use Rattle.hl_interpreter.proofs.Running.{arguments-end, called-as, first-is, state-changed, turns-first}
 use Rattle.hl_interpreter.proofs.Turns.{drop-next}
-use Rattle.hl_interpreter.proofs.Weights.{stmt_weight, stmt_weight-Block, stmt_weight-Do, stmt_weight-For, stmt_weight-If, stmt_weight-Local, stmt_weight-Return, stmt_weight-Run, stmt_weight-While, weight-within}
+use Rattle.hl_source.proofs.Weights.{stmt_weight, stmt_weight-Block, stmt_weight-Do, stmt_weight-For, stmt_weight-If, stmt_weight-Local, stmt_weight-Return, stmt_weight-Run, stmt_weight-While, weight-within}
 use Rattle.hl_interpreter.proofs.expressions.+running.Goals as goal
 
 pub evaluates-returns-in-Literal : goal.evaluates-returns-in-Literal
@@ -331,28 +331,28 @@ indexes_if-returns-in-None t c =
 pub argument-returns-in_err-start-in-Value : goal.argument-returns-in_err-start-in-Value
 argument-returns-in_err-start-in-Value t c =
     let context = context_of c.args.context.now in let replies = c.args.context.now.run.now.replies.now in let s = state_of replies c.args.state.now in stop-exit pair_of c.from_residual.result c.in_err-start-in-Value.field-0.0 (state_of replies c.evaluates.new.state) _ c.from_residual.ensures.1 (same pair_of (Err c.in_err-start-in-Value.field-0.0) (state_of replies c.evaluates.new.state) _ _ (ap (λ g. argument_of context g c.args.copying s) (sym (ap plain_arg c.in-Value.is ∙ plain_arg-Value c.in-Value.value)))
-    (stops (λ w. w) pair_of c.in_err-start-in-Value.field-0.0 (state_of replies c.evaluates.new.state) (evaluates context (plain_expr c.in-Value.value) s) (λ words s'. goes_with (argument [] words) s') c.in_err-start-in-Value.ensures))
+    (stops (λ w. w) pair_of c.in_err-start-in-Value.field-0.0 (state_of replies c.evaluates.new.state) (evaluates context (plain_expr c.in-Value.value) s) (λ words s'. goes_with (argument_operands [] words) s') c.in_err-start-in-Value.ensures))
 
 pub argument-returns-in_ok-start-in-Value : goal.argument-returns-in_ok-start-in-Value
 argument-returns-in_ok-start-in-Value t c =
-    let context = context_of c.args.context.now in let replies = c.args.context.now.run.now.replies.now in let s = state_of replies c.args.state.now in sym (ap (λ g. argument_of context g c.args.copying s) (sym (ap plain_arg c.in-Value.is ∙ plain_arg-Value c.in-Value.value))) ∙ (ap (λ q. after q (λ words s'. goes_with (argument [] words) s')) c.in_ok-start-in-Value.ensures ∙ ap (λ l. goes_with (argument l c.in_ok-start-in-Value.start) (state_of replies c.evaluates.new.state)) (sym c.new-indexes.ensures))
+    let context = context_of c.args.context.now in let replies = c.args.context.now.run.now.replies.now in let s = state_of replies c.args.state.now in sym (ap (λ g. argument_of context g c.args.copying s) (sym (ap plain_arg c.in-Value.is ∙ plain_arg-Value c.in-Value.value))) ∙ (ap (λ q. after q (λ words s'. goes_with (argument_operands [] words) s')) c.in_ok-start-in-Value.ensures ∙ ap (λ l. goes_with (argument_operands l c.in_ok-start-in-Value.start) (state_of replies c.evaluates.new.state)) (sym c.new-indexes.ensures))
 
 pub argument-returns-in_err-indexes-in-Place : goal.argument-returns-in_err-indexes-in-Place
 argument-returns-in_err-indexes-in-Place t c =
     let context = context_of c.args.context.now in let replies = c.args.context.now.run.now.replies.now in let s = state_of replies c.args.state.now in stop-exit pair_of c.from_residual-in_err-indexes-in-Place.result c.in_err-indexes-in-Place.field-0.0 (state_of replies c.indexes.new.state) _ c.from_residual-in_err-indexes-in-Place.ensures.1 (same pair_of (Err c.in_err-indexes-in-Place.field-0.0) (state_of replies c.indexes.new.state) _ _ (ap (λ g. argument_of context g c.args.copying s) (sym (ap plain_arg c.in-Place.is ∙ plain_arg-Place c.in-Place.place)))
-    (stops (λ w. w) pair_of c.in_err-indexes-in-Place.field-0.0 (state_of replies c.indexes.new.state) (indexes context (plain_location c.in-Place.place) s) (λ at s1. after (starts_with context c.args.copying (plain_location c.in-Place.place) at s1) (λ start s2. goes_with (argument at start) s2)) c.in_err-indexes-in-Place.ensures))
+    (stops (λ w. w) pair_of c.in_err-indexes-in-Place.field-0.0 (state_of replies c.indexes.new.state) (indexes context (plain_location c.in-Place.place) s) (λ at s1. after (copies_in context c.args.copying (plain_location c.in-Place.place) at s1) (λ start s2. goes_with (argument_operands at start) s2)) c.in_err-indexes-in-Place.ensures))
 
 pub argument-returns-in_err-start-in-Place : goal.argument-returns-in_err-start-in-Place
 argument-returns-in_err-start-in-Place t c =
-    let context = context_of c.args.context.now in let replies = c.args.context.now.run.now.replies.now in let s = state_of replies c.args.state.now in stop-exit pair_of c.from_residual-in_err-start-in-Place.result c.in_err-start-in-Place.field-0.0 (state_of replies c.starts_with.new.state) _ c.from_residual-in_err-start-in-Place.ensures.1 (same pair_of (Err c.in_err-start-in-Place.field-0.0) (state_of replies c.starts_with.new.state) _ _ (ap (λ g. argument_of context g c.args.copying s) (sym (ap plain_arg c.in-Place.is ∙ plain_arg-Place c.in-Place.place)))
-    (goes pair_of c.in_ok-indexes-in-Place.indexes (Err c.in_err-start-in-Place.field-0.0) (state_of replies c.indexes.new.state) (state_of replies c.starts_with.new.state) (indexes context (plain_location c.in-Place.place) s) (λ at s1. after (starts_with context c.args.copying (plain_location c.in-Place.place) at s1) (λ start s2. goes_with (argument at start) s2)) c.in_ok-indexes-in-Place.ensures
-    (stops (λ w. w) pair_of c.in_err-start-in-Place.field-0.0 (state_of replies c.starts_with.new.state) (starts_with context c.args.copying (plain_location c.in-Place.place) c.in_ok-indexes-in-Place.indexes (state_of replies c.indexes.new.state)) (λ start s2. goes_with (argument c.in_ok-indexes-in-Place.indexes start) s2)
-    (same (λ w. w) (Err c.in_err-start-in-Place.field-0.0) (state_of replies c.starts_with.new.state) _ _ (ap (λ l. starts_with context c.args.copying (plain_location c.in-Place.place) l (state_of replies c.indexes.new.state)) c.as_slice.ensures.value) c.in_err-start-in-Place.ensures))))
+    let context = context_of c.args.context.now in let replies = c.args.context.now.run.now.replies.now in let s = state_of replies c.args.state.now in stop-exit pair_of c.from_residual-in_err-start-in-Place.result c.in_err-start-in-Place.field-0.0 (state_of replies c.copies_in.new.state) _ c.from_residual-in_err-start-in-Place.ensures.1 (same pair_of (Err c.in_err-start-in-Place.field-0.0) (state_of replies c.copies_in.new.state) _ _ (ap (λ g. argument_of context g c.args.copying s) (sym (ap plain_arg c.in-Place.is ∙ plain_arg-Place c.in-Place.place)))
+    (goes pair_of c.in_ok-indexes-in-Place.indexes (Err c.in_err-start-in-Place.field-0.0) (state_of replies c.indexes.new.state) (state_of replies c.copies_in.new.state) (indexes context (plain_location c.in-Place.place) s) (λ at s1. after (copies_in context c.args.copying (plain_location c.in-Place.place) at s1) (λ start s2. goes_with (argument_operands at start) s2)) c.in_ok-indexes-in-Place.ensures
+    (stops (λ w. w) pair_of c.in_err-start-in-Place.field-0.0 (state_of replies c.copies_in.new.state) (copies_in context c.args.copying (plain_location c.in-Place.place) c.in_ok-indexes-in-Place.indexes (state_of replies c.indexes.new.state)) (λ start s2. goes_with (argument_operands c.in_ok-indexes-in-Place.indexes start) s2)
+    (same (λ w. w) (Err c.in_err-start-in-Place.field-0.0) (state_of replies c.copies_in.new.state) _ _ (ap (λ l. copies_in context c.args.copying (plain_location c.in-Place.place) l (state_of replies c.indexes.new.state)) c.as_slice.ensures.value) c.in_err-start-in-Place.ensures))))
 
 pub argument-returns-in_ok-start-in-Place : goal.argument-returns-in_ok-start-in-Place
 argument-returns-in_ok-start-in-Place t c =
-    let context = context_of c.args.context.now in let replies = c.args.context.now.run.now.replies.now in let s = state_of replies c.args.state.now in sym (ap (λ g. argument_of context g c.args.copying s) (sym (ap plain_arg c.in-Place.is ∙ plain_arg-Place c.in-Place.place))) ∙ (ap (λ q. after q (λ at s1. after (starts_with context c.args.copying (plain_location c.in-Place.place) at s1) (λ start s2. goes_with (argument at start) s2))) c.in_ok-indexes-in-Place.ensures ∙
-    ap (λ q. after q (λ start s2. goes_with (argument c.in_ok-indexes-in-Place.indexes start) s2)) (sym (ap (λ l. starts_with context c.args.copying (plain_location c.in-Place.place) l (state_of replies c.indexes.new.state)) c.as_slice.ensures.value) ∙ c.in_ok-start-in-Place.ensures))
+    let context = context_of c.args.context.now in let replies = c.args.context.now.run.now.replies.now in let s = state_of replies c.args.state.now in sym (ap (λ g. argument_of context g c.args.copying s) (sym (ap plain_arg c.in-Place.is ∙ plain_arg-Place c.in-Place.place))) ∙ (ap (λ q. after q (λ at s1. after (copies_in context c.args.copying (plain_location c.in-Place.place) at s1) (λ start s2. goes_with (argument_operands at start) s2))) c.in_ok-indexes-in-Place.ensures ∙
+    ap (λ q. after q (λ start s2. goes_with (argument_operands c.in_ok-indexes-in-Place.indexes start) s2)) (sym (ap (λ l. copies_in context c.args.copying (plain_location c.in-Place.place) l (state_of replies c.indexes.new.state)) c.as_slice.ensures.value) ∙ c.in_ok-start-in-Place.ensures))
 
 pub arguments-loop-at-init : goal.arguments-loop-at-init
 arguments-loop-at-init t c =
@@ -594,79 +594,79 @@ for_loop-returns-in_default t c =
 
 pub for_turns-loop-turn-init : goal.for_turns-loop-turn-init
 for_turns-loop-turn-init t c =
-    let context = context_of c.args.context.now in let replies = c.args.context.now.run.now.replies.now in let s = state_of replies c.args.state.now in turns-first c.args.context.now.run.now.turns (tested_turn context (option_map plain_expr c.args.cond.now) (λ s. does context c.args.context.now.run.now.turns (plain_stmt c.args.body.now) s) (option_map plain_expr c.args.step.now)) s
+    let context = context_of c.args.context.now in let replies = c.args.context.now.run.now.replies.now in let s = state_of replies c.args.state.now in turns-first c.args.context.now.run.now.turns (for_turn context (option_map plain_expr c.args.cond.now) (λ s. does context c.args.context.now.run.now.turns (plain_stmt c.args.body.now) s) (option_map plain_expr c.args.step.now)) s
 
 pub for_turns-returns-in_err-leaving : goal.for_turns-returns-in_err-leaving
 for_turns-returns-in_err-leaving t c =
     let context = context_of c.args.context.now in let replies = c.args.context.now.run.now.replies.now in let s = state_of replies c.args.state.now in stop-exit plain_leaving c.from_residual.result c.in_err-leaving.field-0.0 (state_of replies c.for_turn.new.state) _ c.from_residual.ensures.1
-    (turn-stops c.args.context.now.run.now.turns c.loop-turn._turn (tested_turn context (option_map plain_expr c.args.cond.now) (λ s. does context c.args.context.now.run.now.turns (plain_stmt c.args.body.now) s) (option_map plain_expr c.args.step.now)) (state_of replies c.loop-turn.state) (state_of replies c.for_turn.new.state) (turns c.args.context.now.run.now.turns (tested_turn context (option_map plain_expr c.args.cond.now) (λ s. does context c.args.context.now.run.now.turns (plain_stmt c.args.body.now) s) (option_map plain_expr c.args.step.now)) s) plain_leaving plain_leaving c.in_err-leaving.field-0.0 c.loop-turn-test.true c.loop-turn.invariant c.in_err-leaving.ensures)
+    (turn-stops c.args.context.now.run.now.turns c.loop-turn._turn (for_turn context (option_map plain_expr c.args.cond.now) (λ s. does context c.args.context.now.run.now.turns (plain_stmt c.args.body.now) s) (option_map plain_expr c.args.step.now)) (state_of replies c.loop-turn.state) (state_of replies c.for_turn.new.state) (turns c.args.context.now.run.now.turns (for_turn context (option_map plain_expr c.args.cond.now) (λ s. does context c.args.context.now.run.now.turns (plain_stmt c.args.body.now) s) (option_map plain_expr c.args.step.now)) s) plain_leaving plain_leaving c.in_err-leaving.field-0.0 c.loop-turn-test.true c.loop-turn.invariant c.in_err-leaving.ensures)
 
 pub for_turns-returns-in-Some : goal.for_turns-returns-in-Some
 for_turns-returns-in-Some t c =
     let context = context_of c.args.context.now in let replies = c.args.context.now.run.now.replies.now in let s = state_of replies c.args.state.now in
-    turn-done c.args.context.now.run.now.turns c.loop-turn._turn (tested_turn context (option_map plain_expr c.args.cond.now) (λ s. does context c.args.context.now.run.now.turns (plain_stmt c.args.body.now) s) (option_map plain_expr c.args.step.now)) (state_of replies c.loop-turn.state) (state_of replies c.for_turn.new.state) (turns c.args.context.now.run.now.turns (tested_turn context (option_map plain_expr c.args.cond.now) (λ s. does context c.args.context.now.run.now.turns (plain_stmt c.args.body.now) s) (option_map plain_expr c.args.step.now)) s) c.in_ok-leaving.leaving c.behind_turn.result c.loop-turn-test.true c.loop-turn.invariant c.in_ok-leaving.ensures c.behind_turn.ensures ∙
-    ap (λ o. loop_left (turns (c.args.context.now.run.now.turns - (c.loop-turn._turn + 1)) (tested_turn context (option_map plain_expr c.args.cond.now) (λ s. does context c.args.context.now.run.now.turns (plain_stmt c.args.body.now) s) (option_map plain_expr c.args.step.now))) o (state_of replies c.for_turn.new.state)) c.in-Some.is
+    turn-done c.args.context.now.run.now.turns c.loop-turn._turn (for_turn context (option_map plain_expr c.args.cond.now) (λ s. does context c.args.context.now.run.now.turns (plain_stmt c.args.body.now) s) (option_map plain_expr c.args.step.now)) (state_of replies c.loop-turn.state) (state_of replies c.for_turn.new.state) (turns c.args.context.now.run.now.turns (for_turn context (option_map plain_expr c.args.cond.now) (λ s. does context c.args.context.now.run.now.turns (plain_stmt c.args.body.now) s) (option_map plain_expr c.args.step.now)) s) c.in_ok-leaving.leaving c.behind_turn.result c.loop-turn-test.true c.loop-turn.invariant c.in_ok-leaving.ensures c.behind_turn.ensures ∙
+    ap (λ o. loop_left (turns (c.args.context.now.run.now.turns - (c.loop-turn._turn + 1)) (for_turn context (option_map plain_expr c.args.cond.now) (λ s. does context c.args.context.now.run.now.turns (plain_stmt c.args.body.now) s) (option_map plain_expr c.args.step.now))) o (state_of replies c.for_turn.new.state)) c.in-Some.is
 
 pub for_turns-loop-turn-preserved : goal.for_turns-loop-turn-preserved
 for_turns-loop-turn-preserved t c =
     let context = context_of c.args.context.now in let replies = c.args.context.now.run.now.replies.now in let s = state_of replies c.args.state.now in
-    turn-done c.args.context.now.run.now.turns c.loop-turn._turn (tested_turn context (option_map plain_expr c.args.cond.now) (λ s. does context c.args.context.now.run.now.turns (plain_stmt c.args.body.now) s) (option_map plain_expr c.args.step.now)) (state_of replies c.loop-turn.state) (state_of replies c.for_turn.new.state) (turns c.args.context.now.run.now.turns (tested_turn context (option_map plain_expr c.args.cond.now) (λ s. does context c.args.context.now.run.now.turns (plain_stmt c.args.body.now) s) (option_map plain_expr c.args.step.now)) s) c.in_ok-leaving.leaving c.behind_turn.result c.loop-turn-test.true c.loop-turn.invariant c.in_ok-leaving.ensures c.behind_turn.ensures ∙
-    ap (λ o. loop_left (turns (c.args.context.now.run.now.turns - (c.loop-turn._turn + 1)) (tested_turn context (option_map plain_expr c.args.cond.now) (λ s. does context c.args.context.now.run.now.turns (plain_stmt c.args.body.now) s) (option_map plain_expr c.args.step.now))) o (state_of replies c.for_turn.new.state)) c.in_default.is
+    turn-done c.args.context.now.run.now.turns c.loop-turn._turn (for_turn context (option_map plain_expr c.args.cond.now) (λ s. does context c.args.context.now.run.now.turns (plain_stmt c.args.body.now) s) (option_map plain_expr c.args.step.now)) (state_of replies c.loop-turn.state) (state_of replies c.for_turn.new.state) (turns c.args.context.now.run.now.turns (for_turn context (option_map plain_expr c.args.cond.now) (λ s. does context c.args.context.now.run.now.turns (plain_stmt c.args.body.now) s) (option_map plain_expr c.args.step.now)) s) c.in_ok-leaving.leaving c.behind_turn.result c.loop-turn-test.true c.loop-turn.invariant c.in_ok-leaving.ensures c.behind_turn.ensures ∙
+    ap (λ o. loop_left (turns (c.args.context.now.run.now.turns - (c.loop-turn._turn + 1)) (for_turn context (option_map plain_expr c.args.cond.now) (λ s. does context c.args.context.now.run.now.turns (plain_stmt c.args.body.now) s) (option_map plain_expr c.args.step.now))) o (state_of replies c.for_turn.new.state)) c.in_default.is
 
 pub for_turns-returns : goal.for_turns-returns
 for_turns-returns t c =
     let context = context_of c.args.context.now in let replies = c.args.context.now.run.now.replies.now in let s = state_of replies c.args.state.now in
-    turns-over c.args.context.now.run.now.turns c.loop-turn._turn (tested_turn context (option_map plain_expr c.args.cond.now) (λ s. does context c.args.context.now.run.now.turns (plain_stmt c.args.body.now) s) (option_map plain_expr c.args.step.now)) (state_of replies c.loop-turn.state) (turns c.args.context.now.run.now.turns (tested_turn context (option_map plain_expr c.args.cond.now) (λ s. does context c.args.context.now.run.now.turns (plain_stmt c.args.body.now) s) (option_map plain_expr c.args.step.now)) s) c.loop-turn-test.false c.loop-turn.invariant
+    turns-over c.args.context.now.run.now.turns c.loop-turn._turn (for_turn context (option_map plain_expr c.args.cond.now) (λ s. does context c.args.context.now.run.now.turns (plain_stmt c.args.body.now) s) (option_map plain_expr c.args.step.now)) (state_of replies c.loop-turn.state) (turns c.args.context.now.run.now.turns (for_turn context (option_map plain_expr c.args.cond.now) (λ s. does context c.args.context.now.run.now.turns (plain_stmt c.args.body.now) s) (option_map plain_expr c.args.step.now)) s) c.loop-turn-test.false c.loop-turn.invariant
 
 pub while_loop-loop-turn-init : goal.while_loop-loop-turn-init
 while_loop-loop-turn-init t c =
-    let context = context_of c.args.context.now in let replies = c.args.context.now.run.now.replies.now in let s = state_of replies c.args.state.now in turns-first c.args.context.now.run.now.turns (tested_turn context (Some (plain_expr c.args.cond.now)) (λ s. does context c.args.context.now.run.now.turns (plain_stmt c.args.body.now) s) None) s
+    let context = context_of c.args.context.now in let replies = c.args.context.now.run.now.replies.now in let s = state_of replies c.args.state.now in turns-first c.args.context.now.run.now.turns (for_turn context (Some (plain_expr c.args.cond.now)) (λ s. does context c.args.context.now.run.now.turns (plain_stmt c.args.body.now) s) None) s
 
 pub while_loop-returns-in_err-leaving : goal.while_loop-returns-in_err-leaving
 while_loop-returns-in_err-leaving t c =
     let context = context_of c.args.context.now in let replies = c.args.context.now.run.now.replies.now in let s = state_of replies c.args.state.now in stop-exit plain_leaving c.from_residual.result c.in_err-leaving.field-0.0 (state_of replies c.while_turn.new.state) _ c.from_residual.ensures.1
-    (turn-stops c.args.context.now.run.now.turns c.loop-turn._turn (tested_turn context (Some (plain_expr c.args.cond.now)) (λ s. does context c.args.context.now.run.now.turns (plain_stmt c.args.body.now) s) None) (state_of replies c.loop-turn.state) (state_of replies c.while_turn.new.state) (does context c.args.context.now.run.now.turns (while_stmt (plain_expr c.args.cond.now) (plain_stmt c.args.body.now)) s) plain_leaving plain_leaving c.in_err-leaving.field-0.0 c.loop-turn-test.true c.loop-turn.invariant c.in_err-leaving.ensures)
+    (turn-stops c.args.context.now.run.now.turns c.loop-turn._turn (for_turn context (Some (plain_expr c.args.cond.now)) (λ s. does context c.args.context.now.run.now.turns (plain_stmt c.args.body.now) s) None) (state_of replies c.loop-turn.state) (state_of replies c.while_turn.new.state) (does context c.args.context.now.run.now.turns (while_stmt (plain_expr c.args.cond.now) (plain_stmt c.args.body.now)) s) plain_leaving plain_leaving c.in_err-leaving.field-0.0 c.loop-turn-test.true c.loop-turn.invariant c.in_err-leaving.ensures)
 
 pub while_loop-returns-in-Some : goal.while_loop-returns-in-Some
 while_loop-returns-in-Some t c =
     let context = context_of c.args.context.now in let replies = c.args.context.now.run.now.replies.now in let s = state_of replies c.args.state.now in
-    turn-done c.args.context.now.run.now.turns c.loop-turn._turn (tested_turn context (Some (plain_expr c.args.cond.now)) (λ s. does context c.args.context.now.run.now.turns (plain_stmt c.args.body.now) s) None) (state_of replies c.loop-turn.state) (state_of replies c.while_turn.new.state) (does context c.args.context.now.run.now.turns (while_stmt (plain_expr c.args.cond.now) (plain_stmt c.args.body.now)) s) c.in_ok-leaving.leaving c.behind_turn.result c.loop-turn-test.true c.loop-turn.invariant c.in_ok-leaving.ensures c.behind_turn.ensures ∙
-    ap (λ o. loop_left (turns (c.args.context.now.run.now.turns - (c.loop-turn._turn + 1)) (tested_turn context (Some (plain_expr c.args.cond.now)) (λ s. does context c.args.context.now.run.now.turns (plain_stmt c.args.body.now) s) None)) o (state_of replies c.while_turn.new.state)) c.in-Some.is
+    turn-done c.args.context.now.run.now.turns c.loop-turn._turn (for_turn context (Some (plain_expr c.args.cond.now)) (λ s. does context c.args.context.now.run.now.turns (plain_stmt c.args.body.now) s) None) (state_of replies c.loop-turn.state) (state_of replies c.while_turn.new.state) (does context c.args.context.now.run.now.turns (while_stmt (plain_expr c.args.cond.now) (plain_stmt c.args.body.now)) s) c.in_ok-leaving.leaving c.behind_turn.result c.loop-turn-test.true c.loop-turn.invariant c.in_ok-leaving.ensures c.behind_turn.ensures ∙
+    ap (λ o. loop_left (turns (c.args.context.now.run.now.turns - (c.loop-turn._turn + 1)) (for_turn context (Some (plain_expr c.args.cond.now)) (λ s. does context c.args.context.now.run.now.turns (plain_stmt c.args.body.now) s) None)) o (state_of replies c.while_turn.new.state)) c.in-Some.is
 
 pub while_loop-loop-turn-preserved : goal.while_loop-loop-turn-preserved
 while_loop-loop-turn-preserved t c =
     let context = context_of c.args.context.now in let replies = c.args.context.now.run.now.replies.now in let s = state_of replies c.args.state.now in
-    turn-done c.args.context.now.run.now.turns c.loop-turn._turn (tested_turn context (Some (plain_expr c.args.cond.now)) (λ s. does context c.args.context.now.run.now.turns (plain_stmt c.args.body.now) s) None) (state_of replies c.loop-turn.state) (state_of replies c.while_turn.new.state) (does context c.args.context.now.run.now.turns (while_stmt (plain_expr c.args.cond.now) (plain_stmt c.args.body.now)) s) c.in_ok-leaving.leaving c.behind_turn.result c.loop-turn-test.true c.loop-turn.invariant c.in_ok-leaving.ensures c.behind_turn.ensures ∙
-    ap (λ o. loop_left (turns (c.args.context.now.run.now.turns - (c.loop-turn._turn + 1)) (tested_turn context (Some (plain_expr c.args.cond.now)) (λ s. does context c.args.context.now.run.now.turns (plain_stmt c.args.body.now) s) None)) o (state_of replies c.while_turn.new.state)) c.in_default.is
+    turn-done c.args.context.now.run.now.turns c.loop-turn._turn (for_turn context (Some (plain_expr c.args.cond.now)) (λ s. does context c.args.context.now.run.now.turns (plain_stmt c.args.body.now) s) None) (state_of replies c.loop-turn.state) (state_of replies c.while_turn.new.state) (does context c.args.context.now.run.now.turns (while_stmt (plain_expr c.args.cond.now) (plain_stmt c.args.body.now)) s) c.in_ok-leaving.leaving c.behind_turn.result c.loop-turn-test.true c.loop-turn.invariant c.in_ok-leaving.ensures c.behind_turn.ensures ∙
+    ap (λ o. loop_left (turns (c.args.context.now.run.now.turns - (c.loop-turn._turn + 1)) (for_turn context (Some (plain_expr c.args.cond.now)) (λ s. does context c.args.context.now.run.now.turns (plain_stmt c.args.body.now) s) None)) o (state_of replies c.while_turn.new.state)) c.in_default.is
 
 pub while_loop-returns : goal.while_loop-returns
 while_loop-returns t c =
-    let context = context_of c.args.context.now in let replies = c.args.context.now.run.now.replies.now in let s = state_of replies c.args.state.now in turns-over c.args.context.now.run.now.turns c.loop-turn._turn (tested_turn context (Some (plain_expr c.args.cond.now)) (λ s. does context c.args.context.now.run.now.turns (plain_stmt c.args.body.now) s) None) (state_of replies c.loop-turn.state) (does context c.args.context.now.run.now.turns (while_stmt (plain_expr c.args.cond.now) (plain_stmt c.args.body.now)) s) c.loop-turn-test.false c.loop-turn.invariant
+    let context = context_of c.args.context.now in let replies = c.args.context.now.run.now.replies.now in let s = state_of replies c.args.state.now in turns-over c.args.context.now.run.now.turns c.loop-turn._turn (for_turn context (Some (plain_expr c.args.cond.now)) (λ s. does context c.args.context.now.run.now.turns (plain_stmt c.args.body.now) s) None) (state_of replies c.loop-turn.state) (does context c.args.context.now.run.now.turns (while_stmt (plain_expr c.args.cond.now) (plain_stmt c.args.body.now)) s) c.loop-turn-test.false c.loop-turn.invariant
 
 pub do_loop-loop-turn-init : goal.do_loop-loop-turn-init
 do_loop-loop-turn-init t c =
-    let context = context_of c.args.context.now in let replies = c.args.context.now.run.now.replies.now in let s = state_of replies c.args.state.now in turns-first c.args.context.now.run.now.turns (testing_turn context (λ s. does context c.args.context.now.run.now.turns (plain_stmt c.args.body.now) s) (plain_expr c.args.cond.now)) s
+    let context = context_of c.args.context.now in let replies = c.args.context.now.run.now.replies.now in let s = state_of replies c.args.state.now in turns-first c.args.context.now.run.now.turns (do_turn context (λ s. does context c.args.context.now.run.now.turns (plain_stmt c.args.body.now) s) (plain_expr c.args.cond.now)) s
 
 pub do_loop-returns-in_err-leaving : goal.do_loop-returns-in_err-leaving
 do_loop-returns-in_err-leaving t c =
     let context = context_of c.args.context.now in let replies = c.args.context.now.run.now.replies.now in let s = state_of replies c.args.state.now in stop-exit plain_leaving c.from_residual.result c.in_err-leaving.field-0.0 (state_of replies c.do_turn.new.state) _ c.from_residual.ensures.1
-    (turn-stops c.args.context.now.run.now.turns c.loop-turn._turn (testing_turn context (λ s. does context c.args.context.now.run.now.turns (plain_stmt c.args.body.now) s) (plain_expr c.args.cond.now)) (state_of replies c.loop-turn.state) (state_of replies c.do_turn.new.state) (does context c.args.context.now.run.now.turns (do_stmt (plain_stmt c.args.body.now) (plain_expr c.args.cond.now)) s) plain_leaving plain_leaving c.in_err-leaving.field-0.0 c.loop-turn-test.true c.loop-turn.invariant c.in_err-leaving.ensures)
+    (turn-stops c.args.context.now.run.now.turns c.loop-turn._turn (do_turn context (λ s. does context c.args.context.now.run.now.turns (plain_stmt c.args.body.now) s) (plain_expr c.args.cond.now)) (state_of replies c.loop-turn.state) (state_of replies c.do_turn.new.state) (does context c.args.context.now.run.now.turns (do_stmt (plain_stmt c.args.body.now) (plain_expr c.args.cond.now)) s) plain_leaving plain_leaving c.in_err-leaving.field-0.0 c.loop-turn-test.true c.loop-turn.invariant c.in_err-leaving.ensures)
 
 pub do_loop-returns-in-Some : goal.do_loop-returns-in-Some
 do_loop-returns-in-Some t c =
     let context = context_of c.args.context.now in let replies = c.args.context.now.run.now.replies.now in let s = state_of replies c.args.state.now in
-    turn-done c.args.context.now.run.now.turns c.loop-turn._turn (testing_turn context (λ s. does context c.args.context.now.run.now.turns (plain_stmt c.args.body.now) s) (plain_expr c.args.cond.now)) (state_of replies c.loop-turn.state) (state_of replies c.do_turn.new.state) (does context c.args.context.now.run.now.turns (do_stmt (plain_stmt c.args.body.now) (plain_expr c.args.cond.now)) s) c.in_ok-leaving.leaving c.behind_turn.result c.loop-turn-test.true c.loop-turn.invariant c.in_ok-leaving.ensures c.behind_turn.ensures ∙
-    ap (λ o. loop_left (turns (c.args.context.now.run.now.turns - (c.loop-turn._turn + 1)) (testing_turn context (λ s. does context c.args.context.now.run.now.turns (plain_stmt c.args.body.now) s) (plain_expr c.args.cond.now))) o (state_of replies c.do_turn.new.state)) c.in-Some.is
+    turn-done c.args.context.now.run.now.turns c.loop-turn._turn (do_turn context (λ s. does context c.args.context.now.run.now.turns (plain_stmt c.args.body.now) s) (plain_expr c.args.cond.now)) (state_of replies c.loop-turn.state) (state_of replies c.do_turn.new.state) (does context c.args.context.now.run.now.turns (do_stmt (plain_stmt c.args.body.now) (plain_expr c.args.cond.now)) s) c.in_ok-leaving.leaving c.behind_turn.result c.loop-turn-test.true c.loop-turn.invariant c.in_ok-leaving.ensures c.behind_turn.ensures ∙
+    ap (λ o. loop_left (turns (c.args.context.now.run.now.turns - (c.loop-turn._turn + 1)) (do_turn context (λ s. does context c.args.context.now.run.now.turns (plain_stmt c.args.body.now) s) (plain_expr c.args.cond.now))) o (state_of replies c.do_turn.new.state)) c.in-Some.is
 
 pub do_loop-loop-turn-preserved : goal.do_loop-loop-turn-preserved
 do_loop-loop-turn-preserved t c =
     let context = context_of c.args.context.now in let replies = c.args.context.now.run.now.replies.now in let s = state_of replies c.args.state.now in
-    turn-done c.args.context.now.run.now.turns c.loop-turn._turn (testing_turn context (λ s. does context c.args.context.now.run.now.turns (plain_stmt c.args.body.now) s) (plain_expr c.args.cond.now)) (state_of replies c.loop-turn.state) (state_of replies c.do_turn.new.state) (does context c.args.context.now.run.now.turns (do_stmt (plain_stmt c.args.body.now) (plain_expr c.args.cond.now)) s) c.in_ok-leaving.leaving c.behind_turn.result c.loop-turn-test.true c.loop-turn.invariant c.in_ok-leaving.ensures c.behind_turn.ensures ∙
-    ap (λ o. loop_left (turns (c.args.context.now.run.now.turns - (c.loop-turn._turn + 1)) (testing_turn context (λ s. does context c.args.context.now.run.now.turns (plain_stmt c.args.body.now) s) (plain_expr c.args.cond.now))) o (state_of replies c.do_turn.new.state)) c.in_default.is
+    turn-done c.args.context.now.run.now.turns c.loop-turn._turn (do_turn context (λ s. does context c.args.context.now.run.now.turns (plain_stmt c.args.body.now) s) (plain_expr c.args.cond.now)) (state_of replies c.loop-turn.state) (state_of replies c.do_turn.new.state) (does context c.args.context.now.run.now.turns (do_stmt (plain_stmt c.args.body.now) (plain_expr c.args.cond.now)) s) c.in_ok-leaving.leaving c.behind_turn.result c.loop-turn-test.true c.loop-turn.invariant c.in_ok-leaving.ensures c.behind_turn.ensures ∙
+    ap (λ o. loop_left (turns (c.args.context.now.run.now.turns - (c.loop-turn._turn + 1)) (do_turn context (λ s. does context c.args.context.now.run.now.turns (plain_stmt c.args.body.now) s) (plain_expr c.args.cond.now))) o (state_of replies c.do_turn.new.state)) c.in_default.is
 
 pub do_loop-returns : goal.do_loop-returns
 do_loop-returns t c =
-    let context = context_of c.args.context.now in let replies = c.args.context.now.run.now.replies.now in let s = state_of replies c.args.state.now in turns-over c.args.context.now.run.now.turns c.loop-turn._turn (testing_turn context (λ s. does context c.args.context.now.run.now.turns (plain_stmt c.args.body.now) s) (plain_expr c.args.cond.now)) (state_of replies c.loop-turn.state) (does context c.args.context.now.run.now.turns (do_stmt (plain_stmt c.args.body.now) (plain_expr c.args.cond.now)) s) c.loop-turn-test.false c.loop-turn.invariant
+    let context = context_of c.args.context.now in let replies = c.args.context.now.run.now.replies.now in let s = state_of replies c.args.state.now in turns-over c.args.context.now.run.now.turns c.loop-turn._turn (do_turn context (λ s. does context c.args.context.now.run.now.turns (plain_stmt c.args.body.now) s) (plain_expr c.args.cond.now)) (state_of replies c.loop-turn.state) (does context c.args.context.now.run.now.turns (do_stmt (plain_stmt c.args.body.now) (plain_expr c.args.cond.now)) s) c.loop-turn-test.false c.loop-turn.invariant
 
 pub for_turn-returns-in_err-condition_if : goal.for_turn-returns-in_err-condition_if
 for_turn-returns-in_err-condition_if t c =
@@ -770,12 +770,12 @@ pub runs-returns-in_err-leaving : goal.runs-returns-in_err-leaving
 runs-returns-in_err-leaving t c =
     let replies = c.args.run.now.replies.now in stop-exit (λ w. w) c.from_residual-in_err-leaving.result c.in_err-leaving.field-0.0 (state_of replies c.does_all.new.state) _ c.from_residual-in_err-leaving.ensures.1
     (same (λ w. w) (Err c.in_err-leaving.field-0.0) (state_of replies c.does_all.new.state) _ _ (sym (called-as (context_behind c.args.run.now (take c.args.number c.args.functions.now) (plain_function c.index-functions-number.result)) c.args.run.now.turns (plain_function c.index-functions-number.result) (slice_index_or (callees_behind c.args.run.now [] [] (map plain_function c.args.functions.now)) c.args.number no_callee) c.args.state.now.variables.items (state_of replies c.args.state.now).exchange (state_of replies c.add_variables.new.state) (callee-at c.args.run.now c.args.functions.now c.args.number c.index-functions-number.result no_callee (omega arith) c.index-functions-number.is) (first-is c.args.run.now (take c.args.number c.args.functions.now) c.index-functions-number.result c.args.state.now c.add_variables.new.state c.in_ok-add_variables.ensures.variables c.add_variables.ensures.events)))
-    (stops plain_leaving (λ w. w) c.in_err-leaving.field-0.0 (state_of replies c.does_all.new.state) (does_all (context_behind c.args.run.now (take c.args.number c.args.functions.now) (plain_function c.index-functions-number.result)) c.args.run.now.turns (plain_stmts c.index-functions-number.result.body) (state_of replies c.add_variables.new.state)) (λ leaving t. goes_with (value_of leaving) t) c.in_err-leaving.ensures))
+    (stops plain_leaving (λ w. w) c.in_err-leaving.field-0.0 (state_of replies c.does_all.new.state) (does_all (context_behind c.args.run.now (take c.args.number c.args.functions.now) (plain_function c.index-functions-number.result)) c.args.run.now.turns (plain_stmts c.index-functions-number.result.body) (state_of replies c.add_variables.new.state)) (λ leaving t. goes_with (returned_value leaving) t) c.in_err-leaving.ensures))
 
 pub runs-returns : goal.runs-returns
 runs-returns t c =
     let replies = c.args.run.now.replies.now in
-    (called-as (context_behind c.args.run.now (take c.args.number c.args.functions.now) (plain_function c.index-functions-number.result)) c.args.run.now.turns (plain_function c.index-functions-number.result) (slice_index_or (callees_behind c.args.run.now [] [] (map plain_function c.args.functions.now)) c.args.number no_callee) c.args.state.now.variables.items (state_of replies c.args.state.now).exchange (state_of replies c.add_variables.new.state) (callee-at c.args.run.now c.args.functions.now c.args.number c.index-functions-number.result no_callee (omega arith) c.index-functions-number.is) (first-is c.args.run.now (take c.args.number c.args.functions.now) c.index-functions-number.result c.args.state.now c.add_variables.new.state c.in_ok-add_variables.ensures.variables c.add_variables.ensures.events)) ∙ (ap (λ q. after q (λ leaving t. goes_with (value_of leaving) t)) c.in_ok-leaving.ensures ∙ ap (λ w. goes_with w (state_of replies c.does_all.new.state)) (sym c.value_of.ensures))
+    (called-as (context_behind c.args.run.now (take c.args.number c.args.functions.now) (plain_function c.index-functions-number.result)) c.args.run.now.turns (plain_function c.index-functions-number.result) (slice_index_or (callees_behind c.args.run.now [] [] (map plain_function c.args.functions.now)) c.args.number no_callee) c.args.state.now.variables.items (state_of replies c.args.state.now).exchange (state_of replies c.add_variables.new.state) (callee-at c.args.run.now c.args.functions.now c.args.number c.index-functions-number.result no_callee (omega arith) c.index-functions-number.is) (first-is c.args.run.now (take c.args.number c.args.functions.now) c.index-functions-number.result c.args.state.now c.add_variables.new.state c.in_ok-add_variables.ensures.variables c.add_variables.ensures.events)) ∙ (ap (λ q. after q (λ leaving t. goes_with (returned_value leaving) t)) c.in_ok-leaving.ensures ∙ ap (λ w. goes_with w (state_of replies c.does_all.new.state)) (sym c.returned_value.ensures))
 
 pub runs-does_all-requires : goal.runs-does_all-requires
 runs-does_all-requires t c =

@@ -8,11 +8,11 @@ use Rattle.hl_meaning.specs.declared.expression.Target.{size-Target}
 use Rattle.hl_meaning.specs.Trees.{do_stmt, while_stmt}
 use Rattle.hl_meaning.specs.Views.{plain_args, plain_expr, plain_exprs, plain_location, plain_parts, plain_stmt, plain_stmts}
 use Rattle.hl_source.specs.Expressions.{arguments, indexes, step_indexes, values}
-use Rattle.hl_source.specs.Statements.{does, does_all, tested_turn, testing_turn, turns}
+use Rattle.hl_source.specs.Statements.{do_turn, does, does_all, for_turn, turns}
 use Rattle.hl_interpreter.specs.Operands.{interleaved}
 use Rattle.hl_interpreter.specs.Runs.{context_of, state_of}
 use Rattle.hl_interpreter.proofs.Meeting.{behind}
-use Rattle.hl_interpreter.proofs.Weights.{expr_if, place_if, stmt_if, stmt_weight, stmts_weight, weight_of}
+use Rattle.hl_source.proofs.Weights.{expr_if, place_if, stmt_if, stmt_weight, stmts_weight, weight_of}
 use Rattle.hl_interpreter.proofs.expressions.+running.Given as goal
 
 -- ---- expressions
@@ -148,22 +148,22 @@ invariant-does_all-loop-stmt l =
 abbrev pub invariant-for_turns-loop-turn : goal.invariant-for_turns-loop-turn
 invariant-for_turns-loop-turn l =
     turns l.context.run.now.turns
-    (tested_turn (context_of l.context) (option_map plain_expr l.cond) (λ s. does (context_of l.context) l.context.run.now.turns (plain_stmt l.body) s) (option_map plain_expr l.step))
+    (for_turn (context_of l.context) (option_map plain_expr l.cond) (λ s. does (context_of l.context) l.context.run.now.turns (plain_stmt l.body) s) (option_map plain_expr l.step))
     (state_of l.context.run.now.replies.now l.fn.state) ≡
     turns (l.context.run.now.turns - l._turn)
-    (tested_turn (context_of l.context) (option_map plain_expr l.cond) (λ s. does (context_of l.context) l.context.run.now.turns (plain_stmt l.body) s) (option_map plain_expr l.step))
+    (for_turn (context_of l.context) (option_map plain_expr l.cond) (λ s. does (context_of l.context) l.context.run.now.turns (plain_stmt l.body) s) (option_map plain_expr l.step))
     (state_of l.context.run.now.replies.now l.state)
 
 abbrev pub invariant-while_loop-loop-turn : goal.invariant-while_loop-loop-turn
 invariant-while_loop-loop-turn l =
     does (context_of l.context) l.context.run.now.turns (while_stmt (plain_expr l.cond) (plain_stmt l.body)) (state_of l.context.run.now.replies.now l.fn.state) ≡
     turns (l.context.run.now.turns - l._turn)
-    (tested_turn (context_of l.context) (Some (plain_expr l.cond)) (λ s. does (context_of l.context) l.context.run.now.turns (plain_stmt l.body) s) None)
+    (for_turn (context_of l.context) (Some (plain_expr l.cond)) (λ s. does (context_of l.context) l.context.run.now.turns (plain_stmt l.body) s) None)
     (state_of l.context.run.now.replies.now l.state)
 
 abbrev pub invariant-do_loop-loop-turn : goal.invariant-do_loop-loop-turn
 invariant-do_loop-loop-turn l =
     does (context_of l.context) l.context.run.now.turns (do_stmt (plain_stmt l.body) (plain_expr l.cond)) (state_of l.context.run.now.replies.now l.fn.state) ≡
     turns (l.context.run.now.turns - l._turn)
-    (testing_turn (context_of l.context) (λ s. does (context_of l.context) l.context.run.now.turns (plain_stmt l.body) s) (plain_expr l.cond))
+    (do_turn (context_of l.context) (λ s. does (context_of l.context) l.context.run.now.turns (plain_stmt l.body) s) (plain_expr l.cond))
     (state_of l.context.run.now.replies.now l.state)

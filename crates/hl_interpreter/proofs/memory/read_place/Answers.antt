@@ -12,4 +12,4 @@ returns-in_err-place c = memory-exit (λ w. w) c.from_residual.result _ _ c.from
 pub returns : goal.returns
 returns c =
     let s = state_of c.args.context.now.run.now.replies.now c.args.state.now in
-    same (λ w. w) c.read_reached.result _ _ _ (ap (λ (p : Place). read_reached (context_of c.args.context.now) p.holder p.at s) c.in_ok-place.ensures) c.read_reached.ensures
+    same (λ w. w) c.read_reached.result _ _ _ (ap (λ (p : Place). read_reached (context_of c.args.context.now) p.holder p.reached s) c.in_ok-place.ensures) c.read_reached.ensures

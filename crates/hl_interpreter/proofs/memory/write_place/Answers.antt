@@ -12,4 +12,4 @@ returns-in_err-place c = memory-exit effect c.from_residual.result _ _ c.from_re
 pub returns : goal.returns
 returns c =
     let s = state_of c.args.context.now.run.now.replies.now c.args.state.now in
-    same effect c.write_letters.result _ _ _ (ap (λ (p : Place). write_letters (context_of c.args.context.now) p.holder p.at.offset p.at.letters c.args.words.now s) c.in_ok-place.ensures) c.write_letters.ensures
+    same effect c.write_letters.result _ _ _ (ap (λ (p : Place). write_letters (context_of c.args.context.now) p.holder p.reached.offset p.reached.letters c.args.words.now s) c.in_ok-place.ensures) c.write_letters.ensures

@@ -8,12 +8,12 @@ use Rattle.hl_interpreter.proofs.places.reached_kinds.Goals as goal
 
 pub returns-in-Held : goal.returns-in-Held
 returns-in-Held c =
-    IfOk-weaker c.kinds_of.result _ _ (λ w e. e ∙ sym (ap (λ t. kinds_of (plain_structs c.args.program.now.structs) (plain_type t)) c.in-Held.is)) c.kinds_of.ensures
+    IfOk-weaker c.kinds_of.result _ _ (λ w e. e ∙ sym (ap (λ t. kinds_of (plain_structs c.args.run.now.program.now.structs) (plain_type t)) c.in-Held.is)) c.kinds_of.ensures
 
 pub returns-in_ok-push-in-Component : goal.returns-in_ok-push-in-Component
 returns-in_ok-push-in-Component c =
     c.in_ok-push-in-Component.ensures.ok ∙ (ap (λ l. l ++ c.in-Component.kind ∷ []) c.new-kinds.ensures ∙
-    sym (ap (λ t. kinds_of (plain_structs c.args.program.now.structs) (plain_type t)) c.in-Component.is ∙ kinds-scalar _ _))
+    sym (ap (λ t. kinds_of (plain_structs c.args.run.now.program.now.structs) (plain_type t)) c.in-Component.is ∙ kinds-scalar _ _))
 
 pub returns-in-Nothing : goal.returns-in-Nothing
-returns-in-Nothing c = c.new.ensures ∙ sym (ap (λ t. kinds_of (plain_structs c.args.program.now.structs) (plain_type t)) c.in-Nothing.is ∙ kinds-void _)
+returns-in-Nothing c = c.new.ensures ∙ sym (ap (λ t. kinds_of (plain_structs c.args.run.now.program.now.structs) (plain_type t)) c.in-Nothing.is ∙ kinds-void _)

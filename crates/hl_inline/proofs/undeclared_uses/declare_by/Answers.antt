@@ -1,0 +1,13 @@
+use Rattle.std.proofs.Common.{◌∙◌, ap, sym}
+use Rattle.std.proofs.lemmas.Result.{on_ok_weaker}
+use Rattle.hl_meaning.specs.Views.{plain_stmt}
+use Rattle.hl_inline.specs.Marking.{counts_of}
+use Rattle.hl_inline.proofs.NotedUses.{declares-none, declares-some}
+use Rattle.hl_inline.proofs.undeclared_uses.declare_by.Goals as goal
+
+pub returns-in-Some : goal.returns-in-Some
+returns-in-Some c = λ size known is.
+    on_ok_weaker c.declare.result (λ e. e ∙ ap (counts_of size) (sym (declares-some known (plain_stmt c.args.stmt.now) c.in-Some.variable c.in-Some.ensures))) (c.declare.ensures size known is)
+
+pub returns-in-None : goal.returns-in-None
+returns-in-None c = λ size known is. is ∙ ap (counts_of size) (sym (declares-none known (plain_stmt c.args.stmt.now) c.in-None.ensures))

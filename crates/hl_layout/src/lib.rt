@@ -2,6 +2,8 @@
 #![tactic(auto)]
 
 mod kinds;
+#[cfg(test)]
+mod tests;
 mod words;
 
 pub use kinds::{Kinds, kinds_in, struct_kinds};

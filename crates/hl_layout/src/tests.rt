@@ -33,6 +33,7 @@ fn an_array_has_the_kinds_of_its_struct_again_and_again(rt: HostRuntime) -> Resu
     let known = struct_kinds(rt.alloc(), &structs)?;
     let element = Boxed::new(rt.alloc(), HlType::Struct(0))?;
     let kinds = kinds_in(rt.alloc(), known.as_slice(), &HlType::Array(element, 2))?;
+    let kinds = kinds.as_slice();
     assert_eq!(rt; kinds.len(), 6);
     assert_eq!(rt; kinds[0], Kind::Bool);
     assert_eq!(rt; kinds[2], Kind::Int);

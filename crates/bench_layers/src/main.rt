@@ -10,11 +10,9 @@ use crate::answer::answer_of;
 use crate::layer::Layer;
 use crate::stop::Stop;
 use base_core::{HostSource, read_whole};
+use dxil_driver::command::MOST_SOURCE;
 use std::env;
 use std::process::ExitCode;
-
-/// The greatest number of bytes of a source.
-const MOST_SOURCE: usize = 1048576;
 
 /// Runs the layer that the words name over the real ends.
 fn run(rt: &HostRuntime) -> Result<(), Stop> {

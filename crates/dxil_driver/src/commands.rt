@@ -1,24 +1,22 @@
 //! The tool: the words say what is done with the input, the output has the result, and the notes have one
 //! line where there is none.
 
-ghost use Rattle.std.specs.Prelude.{◌≡◌, ◌≢◌, ◌≤◌, ◌⊎◌, List, ℕ, length, map, string_bytes, IfOk, IfErr, IfSome, OnOk, IsErr, IsErrOf};
-ghost use Rattle.std.specs.Io.KnownBytes.{Appends, Keeps};
+ghost use Rattle.std.specs.Prelude.{◌≡◌, ◌≢◌, ◌≤◌, ◌⊎◌, length, map, string_bytes, IfOk, IfErr, IfSome, OnOk};
 ghost use Rattle.base_core.specs.Counts.{HasRisen};
-ghost use Rattle.base_core.specs.Ends.{AppendsPart};
 ghost use Rattle.dxil_driver.specs.Commands.{Accepts, Asks, Gives, IsRefusedText, IsUsage, Refuses, limit_of, most_container, ok_line};
 ghost use Rattle.dxil_driver.specs.Compiled.{most_source};
-ghost use Rattle.dxil_driver.specs.Refusal.{status_of, line_of, write_fault_line};
-ghost use Rattle.dxil_driver.specs.Tool.{Cuts, FailsNotes, FailsOutput, GivesAll, IsBadInput, IsDone, IsDoneOrMemory, IsStop, IsTold, IsTooLong, Stands, StandsFor, Tells, TellsOf, WritesOrCuts};
+ghost use Rattle.dxil_driver.specs.Tool.{FailsNotes, FailsOutput, GivesAll, IsBadInput, IsDone, IsDoneOrMemory, IsStop, IsTold, IsTooLong, StandsFor, TellsOf};
 ghost use Rattle.dxil_driver.specs.declared.command.Command.{Command};
 ghost use Rattle.dxil_driver.specs.declared.refusal.Refusal.{Refusal};
 
 use crate::checker::check_keeping;
 use crate::command::Command;
 use crate::compiler::compile;
+use crate::ends::{deliver, out_of_memory, tell};
 use crate::options::Options;
 use crate::refusal::Refusal;
 use crate::status::Status;
-use base_core::{Bytes, Sink, Source, read_whole, write_whole};
+use base_core::{Bytes, Sink, Source, read_whole};
 use bc_stream::no_blocks;
 use std::alloc::Global;
 use std::mem;
@@ -28,20 +26,6 @@ fn ok() -> &'static [u8]
     ensures { result.now ≡ ok_line }
 {
     b"ok\n"
-}
-
-/// What is printed where memory is refused.
-fn out_of_memory() -> &'static [u8]
-    ensures { result.now ≡ line_of Refusal.Memory }
-{
-    b"error: out of memory\n"
-}
-
-/// What is printed where the output fails.
-fn write_fault() -> &'static [u8]
-    ensures { result.now ≡ write_fault_line }
-{
-    b"error: write fault\n"
 }
 
 /// The container of a source.
@@ -98,31 +82,6 @@ fn run<I: Source>(alloc: Global, command: &Command, input: &mut I) -> Result<Byt
 {
     let all = read_whole(alloc, input, command.limit())?;
     answer(alloc, command, all.as_slice())
-}
-
-/// Writes the line to the notes, and answers the status where it was written whole.
-fn tell<N: Sink>(notes: &mut N, status: Status, line: &[u8]) -> Status
-    ensures told { Tells N.written N.faults notes.old notes.new status line.now result }
-    ensures lasting { N.faults notes.old ≤ N.faults notes.new }
-{
-    match write_whole(notes, line) {
-        Ok(()) => status,
-        Err(_) => Status::WriteFault,
-    }
-}
-
-/// Writes a result to the output, and where that fails the line of it to the notes.
-fn deliver<O: Sink, N: Sink>(output: &mut O, notes: &mut N, bytes: &[u8]) -> Status
-    ensures ends { (result ≡ Status.Done) ⊎ (result ≡ Status.WriteFault) }
-    ensures done { result ≡ Status.Done → Appends (O.written output.old) (O.written output.new) bytes.now
-        × Keeps (N.written notes.old) (N.written notes.new) }
-    ensures fault { result ≡ Status.WriteFault → Cuts O.written O.faults output.old output.new bytes.now
-        × WritesOrCuts N.written N.faults notes.old notes.new write_fault_line }
-{
-    match write_whole(output, bytes) {
-        Ok(()) => Status::Done,
-        Err(_) => tell(notes, Status::WriteFault, write_fault()),
-    }
 }
 
 /// Writes the line of a refusal to the notes, or that of want of memory where the line can't be made.

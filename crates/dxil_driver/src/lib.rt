@@ -7,6 +7,7 @@ pub mod commands;
 pub mod compiler;
 mod container;
 mod emit;
+pub mod ends;
 mod kernel_form;
 pub mod laws;
 pub mod options;

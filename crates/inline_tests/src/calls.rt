@@ -1,16 +1,9 @@
 //! Sources whose programs without calls are known by hand.
 
-ghost use Rattle.std.specs.Prelude.{◌≤◌, List, length, ℕ};
-ghost use Rattle.hl_lexer.specs.Tokens.{IsTokenList, lexemes_of};
-ghost use Rattle.hl_parser.specs.Views.{plain_of};
-ghost use Rattle.hl_types.specs.Elaborating.{AreSpelling};
-
 use base_core::NoMemory;
+use dxil_driver::program_of;
 use hl_inline::{Flat, FlatStmt, inline};
-use hl_lexer::{Tokens, lex};
 use hl_meaning::{Expr, Form, Program, sizes};
-use hl_parser::{Tree, parse};
-use hl_types::elaborate;
 use std::alloc::Global;
 use std::test::Fail;
 
@@ -28,30 +21,8 @@ fn without_calls(alloc: Global, program: &Program) -> Result<Option<Flat>, NoMem
 }
 
 /// What a source becomes that has no fault.
-fn flat_of(alloc: Global, text: &[u8]) -> Result<Option<Flat>, NoMemory>
-    requires { length text.now ≤ 1048576 }
-{
-    match lex(alloc, text) {
-        Ok(tokens) => flat_of_tokens(alloc, &tokens),
-        Err(_fault) => Ok(None),
-    }
-}
-
-/// What the tokens of a text become.
-fn flat_of_tokens(alloc: Global, tokens: &Tokens) -> Result<Option<Flat>, NoMemory>
-    requires { (text : List ℕ) × IsTokenList text (lexemes_of tokens.now) tokens.now.end }
-{
-    match parse(alloc, tokens) {
-        Ok(tree) => flat_of_tree(alloc, &tree, tokens),
-        Err(_fault) => Ok(None),
-    }
-}
-
-/// What a tree of the tokens of a text becomes.
-fn flat_of_tree(alloc: Global, tree: &Tree, tokens: &Tokens) -> Result<Option<Flat>, NoMemory>
-    requires { AreSpelling (lexemes_of tokens.now) tokens.now.end (plain_of tree.now) }
-{
-    match elaborate(alloc, tree, tokens, b"main") {
+fn flat_of(alloc: Global, text: &[u8]) -> Result<Option<Flat>, NoMemory> {
+    match program_of(alloc, text, b"main") {
         Ok(program) => without_calls(alloc, &program),
         Err(_fault) => Ok(None),
     }

@@ -5,6 +5,7 @@ use Rattle.lane_core.specs.declared.event.Asked.{Asked}
 use Rattle.lane_core.specs.declared.event.Asked.TheVariants.{Asks, Ended, Fault, Goes}
 use Rattle.lane_core.specs.declared.event.AtomicKind.{AtomicKind}
 use Rattle.lane_core.specs.declared.event.AtomicKind.TheVariants.{Add, And, Or, Xor, IMin, IMax, UMin, UMax, Exchange}
+use Rattle.lane_core.specs.declared.event.Cell.{Cell}
 use Rattle.lane_core.specs.declared.event.Event.{Event}
 use Rattle.lane_core.specs.declared.event.Event.TheVariants.{BufferLoad, BufferStore, BufferAtomic, BufferCompareExchange, SharedLoad, SharedStore, SharedAtomic, SharedCompareExchange, Barrier, Wave}
 use Rattle.lane_core.specs.declared.event.LaneFault.{LaneFault}
@@ -59,27 +60,52 @@ buffer_place slot index offset =
     codes " " ++ (decimal slot.class ++ (codes " " ++ (decimal slot.space ++ (codes " " ++ (decimal slot.register
     ++ (codes " " ++ (decimal index ++ (codes " " ++ decimal offset))))))))
 
--- the line of an event
+-- where an event of a groupshared variable is: the number of the variable and the place of the word in it, each behind a space
+abbrev pub shared_place : Cell → List ℕ
+shared_place cell = codes " " ++ (decimal cell.variable ++ (codes " " ++ decimal cell.word))
+
+-- the name of an event
+abbrev pub event_name : Event → List ℕ
+event_name (BufferLoad slot index offset) = codes "buffer-load"
+event_name (BufferStore slot index offset count words) = codes "buffer-store"
+event_name (BufferAtomic slot index offset kind word) = codes "buffer-atomic"
+event_name (BufferCompareExchange slot index offset compare word) = codes "buffer-compare-exchange"
+event_name (SharedLoad cell) = codes "shared-load"
+event_name (SharedStore cell word) = codes "shared-store"
+event_name (SharedAtomic cell kind word) = codes "shared-atomic"
+event_name (SharedCompareExchange cell compare word) = codes "shared-compare-exchange"
+event_name (Barrier mode) = codes "barrier"
+event_name (Wave kind operand lane) = codes "wave"
+
+-- where an event is, if it is one of a buffer or of a groupshared variable
+abbrev pub event_place : Event → List ℕ
+event_place (BufferLoad slot index offset) = buffer_place slot index offset
+event_place (BufferStore slot index offset count words) = buffer_place slot index offset
+event_place (BufferAtomic slot index offset kind word) = buffer_place slot index offset
+event_place (BufferCompareExchange slot index offset compare word) = buffer_place slot index offset
+event_place (SharedLoad cell) = shared_place cell
+event_place (SharedStore cell word) = shared_place cell
+event_place (SharedAtomic cell kind word) = shared_place cell
+event_place (SharedCompareExchange cell compare word) = shared_place cell
+event_place (Barrier mode) = []
+event_place (Wave kind operand lane) = []
+
+-- what else an event says, each part behind a space: of a store the words that it stores
+abbrev pub event_operands : Event → List ℕ
+event_operands (BufferLoad slot index offset) = []
+event_operands (BufferStore slot index offset count words) = numbers (take count words)
+event_operands (BufferAtomic slot index offset kind word) = codes " " ++ (atomic_name kind ++ (codes " " ++ decimal word))
+event_operands (BufferCompareExchange slot index offset compare word) = codes " " ++ (decimal compare ++ (codes " " ++ decimal word))
+event_operands (SharedLoad cell) = []
+event_operands (SharedStore cell word) = codes " " ++ decimal word
+event_operands (SharedAtomic cell kind word) = codes " " ++ (atomic_name kind ++ (codes " " ++ decimal word))
+event_operands (SharedCompareExchange cell compare word) = codes " " ++ (decimal compare ++ (codes " " ++ decimal word))
+event_operands (Barrier mode) = codes " " ++ decimal mode
+event_operands (Wave kind operand lane) = codes " " ++ (wave_name kind ++ (codes " " ++ (decimal operand ++ (codes " " ++ decimal lane))))
+
+-- the line of an event: its name, where it is, and what else it says
 abbrev pub event_line : Event → List ℕ
-event_line (BufferLoad slot index offset) = codes "buffer-load" ++ (buffer_place slot index offset ++ line_feed)
-event_line (BufferStore slot index offset count words) =
-    codes "buffer-store" ++ (buffer_place slot index offset ++ (numbers (take count words) ++ line_feed))
-event_line (BufferAtomic slot index offset kind word) =
-    codes "buffer-atomic" ++ (buffer_place slot index offset ++ (codes " " ++ (atomic_name kind ++ (codes " " ++ (decimal word ++ line_feed)))))
-event_line (BufferCompareExchange slot index offset compare word) =
-    codes "buffer-compare-exchange" ++ (buffer_place slot index offset ++ (codes " " ++ (decimal compare ++ (codes " " ++ (decimal word ++ line_feed)))))
-event_line (SharedLoad cell) = codes "shared-load " ++ (decimal cell.variable ++ (codes " " ++ (decimal cell.word ++ line_feed)))
-event_line (SharedStore cell value) =
-    codes "shared-store " ++ (decimal cell.variable ++ (codes " " ++ (decimal cell.word ++ (codes " " ++ (decimal value ++ line_feed)))))
-event_line (SharedAtomic cell kind value) =
-    codes "shared-atomic " ++ (decimal cell.variable ++ (codes " " ++ (decimal cell.word ++ (codes " " ++ (atomic_name kind
-    ++ (codes " " ++ (decimal value ++ line_feed)))))))
-event_line (SharedCompareExchange cell compare value) =
-    codes "shared-compare-exchange " ++ (decimal cell.variable ++ (codes " " ++ (decimal cell.word ++ (codes " " ++ (decimal compare
-    ++ (codes " " ++ (decimal value ++ line_feed)))))))
-event_line (Barrier mode) = codes "barrier " ++ (decimal mode ++ line_feed)
-event_line (Wave kind operand lane) =
-    codes "wave " ++ (wave_name kind ++ (codes " " ++ (decimal operand ++ (codes " " ++ (decimal lane ++ line_feed)))))
+event_line event = event_name event ++ (event_place event ++ (event_operands event ++ line_feed))
 
 -- the line of a fault; a lane of a source has no shift that goes too far
 abbrev pub fault_line : LaneFault → List ℕ

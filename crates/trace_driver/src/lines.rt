@@ -2,7 +2,7 @@
 
 ghost use Rattle.std.specs.Prelude.{◌≡◌, IfOk, string_bytes};
 ghost use Rattle.hl_interpreter.specs.Runs.{run_of};
-ghost use Rattle.trace_driver.specs.Lines.{atomic_name, event_line, fault_line, numbers, buffer_place, outcome_lines, run_lines, wave_name};
+ghost use Rattle.trace_driver.specs.Lines.{atomic_name, buffer_place, event_line, event_name, event_operands, event_place, fault_line, numbers, outcome_lines, run_lines, shared_place, wave_name};
 
 use base_core::{Bytes, NoMemory};
 use hl_interpreter::LaneRun;
@@ -64,6 +64,14 @@ fn buffer_place(alloc: Global, slot: Slot, index: u32, offset: u32) -> Result<St
     format!(in alloc; " {class} {space} {register} {index} {offset}")
 }
 
+/// Where an event of a groupshared variable is: two numbers, each behind a space.
+fn shared_place(alloc: Global, cell: Cell) -> Result<String, AllocError>
+    ensures { IfOk result (λ text. string_bytes text ≡ shared_place cell) }
+{
+    let Cell { variable, word } = cell;
+    format!(in alloc; " {variable} {word}")
+}
+
 /// Words as numbers, each behind a space.
 fn numbers(alloc: Global, words: &[u32]) -> Result<String, AllocError>
     ensures { IfOk result (λ text. string_bytes text ≡ numbers words.now) }
@@ -76,82 +84,99 @@ fn numbers(alloc: Global, words: &[u32]) -> Result<String, AllocError>
     Ok(text)
 }
 
-/// The line of an event.
-fn event_line(alloc: Global, event: Event) -> Result<String, AllocError>
-    ensures { IfOk result (λ line. string_bytes line ≡ event_line event) }
+/// The name of an event.
+fn event_name(event: Event) -> &'static str
+    ensures { result.now ≡ event_name event }
+{
+    match event {
+        Event::BufferLoad { .. } => "buffer-load",
+        Event::BufferStore { .. } => "buffer-store",
+        Event::BufferAtomic { .. } => "buffer-atomic",
+        Event::BufferCompareExchange { .. } => "buffer-compare-exchange",
+        Event::SharedLoad { .. } => "shared-load",
+        Event::SharedStore { .. } => "shared-store",
+        Event::SharedAtomic { .. } => "shared-atomic",
+        Event::SharedCompareExchange { .. } => "shared-compare-exchange",
+        Event::Barrier { .. } => "barrier",
+        Event::Wave { .. } => "wave",
+    }
+}
+
+/// Where an event is, if it is one of a buffer or of a groupshared variable.
+fn event_place(alloc: Global, event: Event) -> Result<String, AllocError>
+    ensures { IfOk result (λ text. string_bytes text ≡ event_place event) }
 {
     match event {
         Event::BufferLoad {
             slot,
             index,
             offset,
-        } => {
-            let place = buffer_place(alloc, slot, index, offset)?;
-            format!(in alloc; "buffer-load{place}\n")
         }
-        Event::BufferStore {
+        | Event::BufferStore {
             slot,
             index,
             offset,
-            count,
-            words,
-        } => {
-            let place = buffer_place(alloc, slot, index, offset)?;
+            ..
+        }
+        | Event::BufferAtomic {
+            slot,
+            index,
+            offset,
+            ..
+        }
+        | Event::BufferCompareExchange {
+            slot,
+            index,
+            offset,
+            ..
+        } => buffer_place(alloc, slot, index, offset),
+        Event::SharedLoad { cell }
+        | Event::SharedStore { cell, .. }
+        | Event::SharedAtomic { cell, .. }
+        | Event::SharedCompareExchange { cell, .. } => shared_place(alloc, cell),
+        Event::Barrier { .. } | Event::Wave { .. } => Ok(String::new(alloc)),
+    }
+}
+
+/// What else an event says, each part behind a space.
+fn event_operands(alloc: Global, event: Event) -> Result<String, AllocError>
+    ensures { IfOk result (λ text. string_bytes text ≡ event_operands event) }
+{
+    match event {
+        Event::BufferLoad { .. } | Event::SharedLoad { .. } => Ok(String::new(alloc)),
+        Event::BufferStore { count, words, .. } => {
             let count = (count as usize).min(4);
-            let words = numbers(alloc, &words[..count])?;
-            format!(in alloc; "buffer-store{place}{words}\n")
+            numbers(alloc, &words[..count])
         }
-        Event::BufferAtomic {
-            slot,
-            index,
-            offset,
-            kind,
-            word,
-        } => {
-            let place = buffer_place(alloc, slot, index, offset)?;
+        Event::SharedStore { word, .. } => format!(in alloc; " {word}"),
+        Event::BufferAtomic { kind, word, .. } | Event::SharedAtomic { kind, word, .. } => {
             let name = atomic_name(kind);
-            format!(in alloc; "buffer-atomic{place} {name} {word}\n")
+            format!(in alloc; " {name} {word}")
         }
-        Event::BufferCompareExchange {
-            slot,
-            index,
-            offset,
-            compare,
-            word,
-        } => {
-            let place = buffer_place(alloc, slot, index, offset)?;
-            format!(in alloc; "buffer-compare-exchange{place} {compare} {word}\n")
+        Event::BufferCompareExchange { compare, word, .. }
+        | Event::SharedCompareExchange { compare, word, .. } => {
+            format!(in alloc; " {compare} {word}")
         }
-        Event::SharedLoad {
-            cell: Cell { variable, word },
-        } => { format!(in alloc; "shared-load {variable} {word}\n") }
-        Event::SharedStore {
-            cell: Cell { variable, word },
-            word: value,
-        } => { format!(in alloc; "shared-store {variable} {word} {value}\n") }
-        Event::SharedAtomic {
-            cell: Cell { variable, word },
-            kind,
-            word: value,
-        } => {
-            let name = atomic_name(kind);
-            format!(in alloc; "shared-atomic {variable} {word} {name} {value}\n")
-        }
-        Event::SharedCompareExchange {
-            cell: Cell { variable, word },
-            compare,
-            word: value,
-        } => { format!(in alloc; "shared-compare-exchange {variable} {word} {compare} {value}\n") }
-        Event::Barrier { mode } => format!(in alloc; "barrier {mode}\n"),
+        Event::Barrier { mode } => format!(in alloc; " {mode}"),
         Event::Wave {
             kind,
             operand,
             lane,
         } => {
             let name = wave_name(kind);
-            format!(in alloc; "wave {name} {operand} {lane}\n")
+            format!(in alloc; " {name} {operand} {lane}")
         }
     }
+}
+
+/// The line of an event: its name, where it is, and what else it says.
+fn event_line(alloc: Global, event: Event) -> Result<String, AllocError>
+    ensures { IfOk result (λ line. string_bytes line ≡ event_line event) }
+{
+    let name = event_name(event);
+    let place = event_place(alloc, event)?;
+    let operands = event_operands(alloc, event)?;
+    format!(in alloc; "{name}{place}{operands}\n")
 }
 
 /// The line of an outcome, with that of the event that is asked before it.

@@ -10,14 +10,30 @@ use hl_lexer::is_name;
 use lane_core::Reply;
 use std::alloc::Global;
 
-/// What is asked for: the name of the entry, the lane, how many turns each loop may take, and the replies in order.
+/// What is asked for.
 #[derive(Debug, Drop)]
 pub struct Request {
+    /// The name of the entry.
     pub entry: Text,
+    /// The lane of the dispatch that is run.
     pub lane: LanePlace,
+    /// How many turns each loop may take.
     pub turns: u64,
+    /// The replies to the events, in the order in which these are asked.
     pub replies: Sequence<Reply>,
 }
+
+/// The place of the word that names the entry.
+const ENTRY: usize = 0;
+
+/// The place of the first of the eight words of the lane.
+const LANE: usize = 1;
+
+/// The place of the word of the turns, right behind those of the lane.
+const TURNS: usize = 9;
+
+/// The place of the first reply. All words before it have to be there.
+const REPLIES: usize = 10;
 
 /// Whether all bytes are decimal digits.
 fn are_digits(text: &[u8]) -> bool
@@ -144,22 +160,22 @@ impl Request {
     pub fn from_words(alloc: Global, words: &[String]) -> Result<Option<Request>, NoMemory>
         ensures { IfOk result (λ found. MatchOption found (IsUsage (map string_bytes words.now)) (Asks (map string_bytes words.now))) }
     {
-        if words.len() < 10 {
+        if words.len() < REPLIES {
             return Ok(None);
         }
-        if !is_name(words[0].as_bytes()) {
+        if !is_name(words[ENTRY].as_bytes()) {
             return Ok(None);
         }
-        let Some(turns) = count_of(words[9].as_str()) else {
+        let Some(turns) = count_of(words[TURNS].as_str()) else {
             return Ok(None);
         };
-        let Some(numbers) = numbers_of(alloc, &words[1..9])? else {
+        let Some(numbers) = numbers_of(alloc, &words[LANE..TURNS])? else {
             return Ok(None);
         };
-        let Some(replies) = replies_of(alloc, &words[10..])? else {
+        let Some(replies) = replies_of(alloc, &words[REPLIES..])? else {
             return Ok(None);
         };
-        let entry = Text::from_slice(alloc, words[0].as_bytes())?;
+        let entry = Text::from_slice(alloc, words[ENTRY].as_bytes())?;
         Ok(Some(Request {
             entry,
             lane: lane_of(numbers.as_slice()),

@@ -1,11 +1,9 @@
 //! The tool: the words say which lane is asked for, the input has the source, and the output gets the lines.
 
 ghost use Rattle.std.specs.Prelude.{◌≡◌, ◌≢◌, ◌≤◌, ◌⊎◌, length, map, string_bytes, IfOk, IfErr, IfSome, OnOk};
-ghost use Rattle.std.specs.Io.KnownBytes.{Appends, Keeps};
 ghost use Rattle.base_core.specs.Counts.{HasRisen};
 ghost use Rattle.dxil_driver.specs.Compiled.{most_source};
-ghost use Rattle.dxil_driver.specs.Refusal.{write_fault_line};
-ghost use Rattle.dxil_driver.specs.Tool.{Cuts, IsDoneOrMemory, IsStop, Tells, WritesOrCuts};
+ghost use Rattle.dxil_driver.specs.Tool.{IsDoneOrMemory, IsStop};
 ghost use Rattle.dxil_driver.specs.declared.refusal.Refusal.{Refusal};
 ghost use Rattle.trace_driver.specs.Requests.{Asks, IsUsage};
 ghost use Rattle.trace_driver.specs.Traces.{FailsNotes, FailsOutput, IsDone, IsRefusedText, IsTold, IsTraced, StandsFor, TellsOf, TracesAll, refusal_line};
@@ -13,26 +11,11 @@ ghost use Rattle.trace_driver.specs.declared.request.Request.{Request};
 
 use crate::request::Request;
 use crate::source::source_lines;
-use base_core::{Bytes, Sink, Source, read_whole, write_whole};
+use base_core::{Bytes, Sink, Source, read_whole};
+use dxil_driver::command::MOST_SOURCE;
+use dxil_driver::ends::{deliver, out_of_memory, tell};
 use dxil_driver::{Refusal, Status};
 use std::alloc::{AllocError, Global};
-
-/// The greatest length of a source in bytes.
-const MOST_SOURCE: usize = 1048576;
-
-/// What is printed where memory is refused.
-fn out_of_memory() -> &'static [u8]
-    ensures { result.now ≡ refusal_line Refusal.Memory }
-{
-    b"error: out of memory\n"
-}
-
-/// What is printed where the output fails.
-fn write_fault() -> &'static [u8]
-    ensures { result.now ≡ write_fault_line }
-{
-    b"error: write fault\n"
-}
 
 /// The line of a refusal: the one of `compile`, but for words that ask for no lane.
 fn refusal_line(alloc: Global, refusal: Refusal) -> Result<String, AllocError>
@@ -43,31 +26,6 @@ fn refusal_line(alloc: Global, refusal: Refusal) -> Result<String, AllocError>
             "usage: source_trace ENTRY GX GY GZ X Y Z LANE WAVE TURNS REPLY..\n"
         ),
         _ => refusal.line(alloc),
-    }
-}
-
-/// Writes the line to the notes, and answers the status where it was written whole.
-fn tell<N: Sink>(notes: &mut N, status: Status, line: &[u8]) -> Status
-    ensures told { Tells N.written N.faults notes.old notes.new status line.now result }
-    ensures lasting { N.faults notes.old ≤ N.faults notes.new }
-{
-    match write_whole(notes, line) {
-        Ok(()) => status,
-        Err(_) => Status::WriteFault,
-    }
-}
-
-/// Writes the lines to the output, and where that fails the line of it to the notes.
-fn deliver<O: Sink, N: Sink>(output: &mut O, notes: &mut N, lines: &[u8]) -> Status
-    ensures ends { (result ≡ Status.Done) ⊎ (result ≡ Status.WriteFault) }
-    ensures done { result ≡ Status.Done → Appends (O.written output.old) (O.written output.new) lines.now
-        × Keeps (N.written notes.old) (N.written notes.new) }
-    ensures fault { result ≡ Status.WriteFault → Cuts O.written O.faults output.old output.new lines.now
-        × WritesOrCuts N.written N.faults notes.old notes.new write_fault_line }
-{
-    match write_whole(output, lines) {
-        Ok(()) => Status::Done,
-        Err(_) => tell(notes, Status::WriteFault, write_fault()),
     }
 }
 

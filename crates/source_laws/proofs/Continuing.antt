@@ -7,7 +7,7 @@ use Rattle.lane_core.specs.declared.event.Event.{Event}
 use Rattle.lane_core.specs.declared.event.LaneFault.{LaneFault}
 use Rattle.lane_core.specs.declared.event.LaneFault.TheVariants.{OutOfBounds}
 use Rattle.lane_core.specs.declared.event.Reply.{Reply}
-use Rattle.lane_core.specs.Lane.{Exchange, Run, ask_with, standing}
+use Rattle.lane_core.specs.Lane.{Exchange, Run, standing}
 use Rattle.lane_core.specs.SameLane.{IsPrefix}
 use Rattle.lane_core.proofs.Follows.{prefix_refl, prefix_trans}
 use Rattle.hl_source.specs.State.{Progress, State, after, alone, asks, asks_word, each, ends_at, faults, first_then, gives, goes_with, joined, out_of_turns, reply_word}

@@ -1,7 +1,6 @@
 -- What extends a run, and what doesn't.
 use Rattle.std.specs.Prelude.{◌≡◌, [], ◌∷◌, refl}
 use Rattle.std.proofs.Common.{ap}
-use Rattle.lane_core.specs.declared.event.Asked.{Asked}
 use Rattle.lane_core.specs.declared.event.Asked.TheVariants.{Asks, Ended}
 use Rattle.lane_core.specs.Lane.{Run}
 use Rattle.hl_source.proofs.SmallPrograms.{stored, word_reply}

@@ -4,7 +4,7 @@ use Rattle.std.proofs.Common.{ℕ, List, [], ◌∷◌}
 use Rattle.lane_core.specs.declared.event.Reply.{Reply}
 use Rattle.hl_meaning.specs.declared.program.Copying.{Copying}
 use Rattle.hl_meaning.specs.declared.program.Parameter.{Parameter}
-use Rattle.hl_meaning.specs.Trees.{Arg, Args, Expr, Exprs, Form, Location, MaybeExpr, MaybeLocation, PathPart, PathParts, Root, Target, a_location, an_expr, atomic_form, binary_form, build_form, bytes_target, call_form, choose_form, constant_root, convert_form, element_root, index_part, intrinsic_form, literal_form, member_part, method_form, more_args, more_exprs, more_parts, no_args, no_expr, no_exprs, no_location, no_parts, pick_form, place_arg, place_target, read_form, shared_root, some_expr, some_location, swizzle_part, unary_form, value_arg, variable_root, write_form}
+use Rattle.hl_meaning.specs.Trees.{Arg, Args, Expr, Exprs, Form, Location, MaybeExpr, MaybeLocation, PathPart, PathParts, Root, Target, a_location, an_expr, atomic_form, binary_form, build_form, bytes_target, call_form, choose_form, convert_form, element_root, index_part, intrinsic_form, literal_form, method_form, more_args, more_exprs, more_parts, no_expr, no_exprs, no_location, no_parts, pick_form, place_arg, place_target, read_form, some_expr, some_location, unary_form, value_arg, write_form}
 use Rattle.hl_source.specs.State.{Callee, Context}
 use Rattle.hl_source.specs.Expressions.{argument_of, argument_operands, arguments, evaluates, indexes, indexes_if, operands, parameters_of, root_index, step_index, step_indexes, target_indexes, value_if, values, values_if}
 use Rattle.source_laws.proofs.Continuing.{Continuing, continuing_after, continuing_alone, continuing_first_then, continuing_goes, continuing_joined, continuing_then}

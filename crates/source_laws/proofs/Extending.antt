@@ -7,7 +7,7 @@ use Rattle.lane_core.specs.declared.event.Event.{Event}
 use Rattle.lane_core.specs.declared.event.Reply.{Reply}
 use Rattle.lane_core.specs.Lane.{Run}
 use Rattle.lane_core.specs.SameLane.{IsPrefix}
-use Rattle.lane_core.proofs.Follows.{prefix_refl, prefix_trans}
+use Rattle.lane_core.proofs.Follows.{prefix_trans}
 use Rattle.source_laws.specs.Laws.{Extends, ExtendsBy}
 
 abbrev run_with : List Event → Asked → Run

@@ -14,7 +14,7 @@ use Rattle.hl_meaning.specs.declared.program.Copying.{Copying}
 use Rattle.hl_meaning.specs.declared.program.Copying.TheVariants.{CopyOut}
 use Rattle.hl_meaning.specs.declared.ty.Kind.{Kind}
 use Rattle.hl_meaning.specs.Types.{Ty}
-use Rattle.hl_meaning.specs.Trees.{Args, Form, Location, MaybeLocation, Target, atomic_form, binary_form, build_form, bytes_target, call_form, choose_form, convert_form, intrinsic_form, literal_form, method_form, more_args, no_args, no_expr, no_location, pick_form, place_arg, place_target, place_type, read_form, some_expr, some_location, type_of, unary_form, value_arg, write_form}
+use Rattle.hl_meaning.specs.Trees.{Args, Form, Location, MaybeLocation, Target, atomic_form, binary_form, build_form, bytes_target, call_form, choose_form, convert_form, intrinsic_form, literal_form, method_form, more_args, no_expr, no_location, pick_form, place_arg, place_target, place_type, read_form, some_expr, some_location, type_of, unary_form, value_arg, write_form}
 use Rattle.hl_source.specs.Operations.{binary_words, component_kind, converted}
 use Rattle.hl_source.specs.State.{Callee, Context, Progress, State, after, goes_with}
 use Rattle.hl_source.specs.Offsets.{place_of}

@@ -1,5 +1,5 @@
 -- Places are read and written alike with further replies.
-use Rattle.std.proofs.Common.{ℕ, List, [], ◌∷◌, length, Option, None, Some, take}
+use Rattle.std.proofs.Common.{ℕ, List, [], ◌∷◌, length, Option}
 use Rattle.std.specs.Prelude.{slice_get, slice_set, unwrap_or, zip}
 use Rattle.lane_core.specs.declared.event.AtomicKind.{AtomicKind}
 use Rattle.lane_core.specs.declared.event.Event.TheVariants.{SharedLoad, SharedStore}
@@ -8,8 +8,8 @@ use Rattle.lane_core.specs.declared.event.Slot.{Slot}
 use Rattle.lane_core.specs.Words.{wrapping_add}
 use Rattle.hl_meaning.specs.Trees.{Location}
 use Rattle.hl_source.specs.State.{Context, Progress, State, each, goes_with}
-use Rattle.hl_source.specs.Offsets.{Holder, Reached, in_constant, in_element, in_shared, in_variable, place_of}
-use Rattle.hl_source.specs.Memory.{atomic_word, byte_offset, cell, constant_words, load_four, load_words, pieces, read_place, read_reached, read_words, shared_size, store_four, store_words, within, word_of, word_offsets, write_letters, write_place, write_variable_word, write_words}
+use Rattle.hl_source.specs.Offsets.{Holder, in_constant, in_element, in_shared, in_variable, place_of}
+use Rattle.hl_source.specs.Memory.{atomic_word, byte_offset, cell, constant_words, load_four, load_words, pieces, read_place, read_words, shared_size, store_four, store_words, within, word_of, word_offsets, write_letters, write_place, write_variable_word, write_words}
 use Rattle.source_laws.proofs.Continuing.{Continuing, continuing_asks, continuing_asks_word, continuing_each, continuing_goes, continuing_of_variables, continuing_sets, continuing_then, continuing_within, continuing_words_of}
 
 module _ (more : List Reply) where

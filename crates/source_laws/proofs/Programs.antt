@@ -1,12 +1,12 @@
 -- The lane of a program, with further replies and no fewer turns, and whatever the words are that its private allocations
 -- start with.
-use Rattle.std.proofs.Common.{◌≡◌, ◌∙◌, refl, sym, ap, subst, ℕ, suc, ◌≤◌, List, [], ◌∷◌, ◌++◌, Some, arith, get_or, length}
-use Rattle.std.specs.Prelude.{slice_get, unwrap_or}
+use Rattle.std.proofs.Common.{◌≡◌, refl, sym, ap, subst, ℕ, suc, ◌≤◌, List, [], ◌∷◌, ◌++◌, Some, arith, get_or, length}
+use Rattle.std.specs.Prelude.{slice_get}
 use Rattle.std.proofs.lemmas.List.{append-nil}
 use Rattle.std.proofs.lemmas.Option.{same_Some, unwrap_or-slice_get}
 use Rattle.lane_core.specs.declared.event.Asked.TheVariants.{Ended}
 use Rattle.lane_core.specs.declared.event.Reply.{Reply}
-use Rattle.lane_core.specs.Lane.{Exchange, Lane, Run, first_exchange, standing}
+use Rattle.lane_core.specs.Lane.{Lane, Run, first_exchange, standing}
 use Rattle.lane_core.proofs.Follows.{prefix_refl}
 use Rattle.hl_meaning.specs.Programs.{FunctionDef, Program}
 use Rattle.hl_meaning.specs.Slots.{slots_of}

@@ -8,7 +8,7 @@ use Rattle.lane_core.specs.SameLane.{IsPrefix}
 use Rattle.hl_meaning.specs.Programs.{Program}
 use Rattle.hl_source.specs.SourceLane.{source_lane}
 
--- How a run of an outcome stands to a later one, which has no fewer turns, and `more` replies behind its own.
+-- What a run of an outcome becomes with no fewer turns, and with `more` replies behind its own.
 abbrev pub ExtendsBy : Asked → (more : List Reply) → (run later : Run) → Type 0
 -- a run that has ended or has faulted stays as it is
 ExtendsBy Ended more run later = later ≡ run

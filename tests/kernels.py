@@ -3,6 +3,8 @@ from pathlib import Path
 from typing import NamedTuple
 
 TABLE = Path(__file__).resolve().parent / 'traces.txt'
+# how many words of source_trace stand before the replies
+PLACE_WORDS = 10
 
 
 class Kernel(NamedTuple):
@@ -15,7 +17,7 @@ class Kernel(NamedTuple):
     @property
     def replies(self):
         """The words of each reply."""
-        return [reply.split(',') for reply in self.words[10:]]
+        return [reply.split(',') for reply in self.words[PLACE_WORDS:]]
 
 
 def behind(line, front):

@@ -3,8 +3,8 @@ use Rattle.std.proofs.Common.{◌≡◌, ◌≢◌, ◌∙◌, sym, ap, ℕ, Boo
 use Rattle.hl_meaning.specs.Trees.{Expr, MaybeStmt, Stmt, Stmts, for_stmt, if_stmt}
 use Rattle.hl_source.specs.State.{Context, State, after, goes_with}
 use Rattle.hl_source.specs.Statements.{Doing, after_body, after_statement, at_end, by_break, by_continue, choice, computes_if, condition, condition_if, do_turn, does, does_all, does_if, for_turn, leaves, turns}
-use Rattle.hl_interpreter.specs.declared.expressions.Leaving.{Leaving as HeldLeaving}
-use Rattle.hl_interpreter.specs.declared.expressions.Leaving.TheVariants.{AtEnd, ByContinue}
+use Rattle.hl_interpreter.specs.declared.statements.Leaving.{Leaving as HeldLeaving}
+use Rattle.hl_interpreter.specs.declared.statements.Leaving.TheVariants.{AtEnd, ByContinue}
 use Rattle.hl_interpreter.specs.declared.run.Stop.{Stop}
 use Rattle.hl_interpreter.specs.Runs.{Meets, plain_leaving, tests}
 use Rattle.hl_interpreter.proofs.Doing.{no-step, not-next, not-turn}

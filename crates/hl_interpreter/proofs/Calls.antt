@@ -15,19 +15,19 @@ use Rattle.hl_interpreter.proofs.Meeting.{behind, behind-joined, behind-joined-s
 
 -- ---- the operands of arguments
 
--- what the parameters start with
-pub starts-of : (indexes start : List (List ℕ)) → length indexes ≡ length start → initial_parameters (interleaved indexes start) ≡ start
-starts-of [] [] e = refl
-starts-of [] (x ∷ start) e = absurd (omega arith)
-starts-of (a ∷ indexes) [] e = absurd (omega arith)
-starts-of (a ∷ indexes) (x ∷ start) e = ap (λ l. x ∷ l) (starts-of indexes start (omega arith))
+-- the words that the parameters have at first
+pub initial-of : (indexes initial : List (List ℕ)) → length indexes ≡ length initial → initial_parameters (interleaved indexes initial) ≡ initial
+initial-of [] [] e = refl
+initial-of [] (x ∷ initial) e = absurd (omega arith)
+initial-of (a ∷ indexes) [] e = absurd (omega arith)
+initial-of (a ∷ indexes) (x ∷ initial) e = ap (λ l. x ∷ l) (initial-of indexes initial (omega arith))
 
 -- one more argument
-pub interleaved-more : (indexes start : List (List ℕ)) (a x : List ℕ) → length indexes ≡ length start → interleaved indexes start ++ argument_operands a x ≡ interleaved (indexes ++ a ∷ []) (start ++ x ∷ [])
+pub interleaved-more : (indexes initial : List (List ℕ)) (a x : List ℕ) → length indexes ≡ length initial → interleaved indexes initial ++ argument_operands a x ≡ interleaved (indexes ++ a ∷ []) (initial ++ x ∷ [])
 interleaved-more [] [] a x e = refl
-interleaved-more [] (y ∷ start) a x e = absurd (omega arith)
+interleaved-more [] (y ∷ initial) a x e = absurd (omega arith)
 interleaved-more (b ∷ indexes) [] a x e = absurd (omega arith)
-interleaved-more (b ∷ indexes) (y ∷ start) a x e = ap (λ l. b ∷ y ∷ l) (interleaved-more indexes start a x (omega arith))
+interleaved-more (b ∷ indexes) (y ∷ initial) a x e = ap (λ l. b ∷ y ∷ l) (interleaved-more indexes initial a x (omega arith))
 
 -- ---- a call
 
@@ -69,26 +69,26 @@ module _ (c : Context) (ty : Ty) (s : State) (function : ℕ) (args : Args) wher
 
 -- ---- arguments, one after another
 
-module _ (c : Context) (first : Arg) (rest : Args) (p : Parameter) (parameters : List Parameter) (indexes start : List (List ℕ)) (s : State) (whole : Progress (List (List ℕ)))
-    (is : whole ≡ behind (interleaved indexes start) (arguments c (more_args first rest) (p ∷ parameters) s)) where
+module _ (c : Context) (first : Arg) (rest : Args) (p : Parameter) (parameters : List Parameter) (indexes initial : List (List ℕ)) (s : State) (whole : Progress (List (List ℕ)))
+    (is : whole ≡ behind (interleaved indexes initial) (arguments c (more_args first rest) (p ∷ parameters) s)) where
   pub argument-stops : {A B : Type 0} (view : A → List (List ℕ)) (other : B → List (List ℕ)) (e : Stop) (t : State) → Meets view (Err e) t (argument_of c first p.copying s) → Meets other (Err e) t whole
   argument-stops view other e t h =
-      same other (Err e) t _ _ (sym is) (behind-joined-stops view (interleaved indexes start) (argument_of c first p.copying s) (λ s'. arguments c rest parameters s') other e t h)
+      same other (Err e) t _ _ (sym is) (behind-joined-stops view (interleaved indexes initial) (argument_of c first p.copying s) (λ s'. arguments c rest parameters s') other e t h)
 
-  pub argument-next : (t : State) (a x : List ℕ) → length indexes ≡ length start → argument_of c first p.copying s ≡ goes_with (argument_operands a x) t
-      → whole ≡ behind (interleaved (indexes ++ a ∷ []) (start ++ x ∷ [])) (arguments c rest parameters t)
+  pub argument-next : (t : State) (a x : List ℕ) → length indexes ≡ length initial → argument_of c first p.copying s ≡ goes_with (argument_operands a x) t
+      → whole ≡ behind (interleaved (indexes ++ a ∷ []) (initial ++ x ∷ [])) (arguments c rest parameters t)
   argument-next t a x e h =
-      is ∙ (behind-joined (interleaved indexes start) (argument_operands a x) t (argument_of c first p.copying s) (λ s'. arguments c rest parameters s') h ∙
-      ap (λ l. behind l (arguments c rest parameters t)) (interleaved-more indexes start a x e))
+      is ∙ (behind-joined (interleaved indexes initial) (argument_operands a x) t (argument_of c first p.copying s) (λ s'. arguments c rest parameters s') h ∙
+      ap (λ l. behind l (arguments c rest parameters t)) (interleaved-more indexes initial a x e))
 
 -- ---- behind a call
 
 -- the arguments' values are written back with the caller's variables
-pub copied-same : (c : Context) (args : Args) (replies : List Reply) (held indexes start : List (List ℕ)) (parameters : List (List ℕ)) (before ended : HeldState) (own : List (List ℕ))
+pub copied-same : (c : Context) (args : Args) (replies : List Reply) (held indexes initial : List (List ℕ)) (parameters : List (List ℕ)) (before ended : HeldState) (own : List (List ℕ))
     → held ≡ indexes → parameters ≡ ended.variables.items → own ≡ before.variables.items
-    → copies_out c args (interleaved held start) parameters (between replies own ended.events)
-    ≡ copies_out c args (interleaved indexes start) (state_of replies ended).variables (record (state_of replies before) { exchange = (state_of replies ended).exchange })
-copied-same c args replies held indexes start parameters before ended own a b d =
-    ap (λ l. copies_out c args (interleaved l start) parameters (between replies own ended.events)) a ∙
-    (ap (λ l. copies_out c args (interleaved indexes start) l (between replies own ended.events)) b ∙
-    ap (λ l. copies_out c args (interleaved indexes start) ended.variables.items (between replies l ended.events)) d)
+    → copies_out c args (interleaved held initial) parameters (between replies own ended.events)
+    ≡ copies_out c args (interleaved indexes initial) (state_of replies ended).variables (record (state_of replies before) { exchange = (state_of replies ended).exchange })
+copied-same c args replies held indexes initial parameters before ended own a b d =
+    ap (λ l. copies_out c args (interleaved l initial) parameters (between replies own ended.events)) a ∙
+    (ap (λ l. copies_out c args (interleaved indexes initial) l (between replies own ended.events)) b ∙
+    ap (λ l. copies_out c args (interleaved indexes initial) ended.variables.items (between replies l ended.events)) d)

@@ -6,8 +6,8 @@ use Rattle.hl_meaning.specs.declared.statement.Stmt.{Stmt as HeldStmt}
 use Rattle.hl_meaning.specs.Views.{plain_stmt, plain_stmts}
 use Rattle.hl_source.specs.State.{Context, Progress, State, after, ends_at, goes_with}
 use Rattle.hl_source.specs.Statements.{Doing, Leaving, after_body, after_statement, after_turn, at_end, computes_if, does, does_all, turns}
-use Rattle.hl_interpreter.specs.declared.expressions.Leaving.{Leaving as HeldLeaving}
-use Rattle.hl_interpreter.specs.declared.expressions.Leaving.TheVariants.{AtEnd, ByBreak, ByContinue, ByReturn}
+use Rattle.hl_interpreter.specs.declared.statements.Leaving.{Leaving as HeldLeaving}
+use Rattle.hl_interpreter.specs.declared.statements.Leaving.TheVariants.{AtEnd, ByBreak, ByContinue, ByReturn}
 use Rattle.hl_interpreter.specs.declared.run.Stop.{Stop}
 use Rattle.hl_interpreter.specs.Runs.{Meets, loop_left, plain_leaving}
 use Rattle.hl_interpreter.proofs.Meeting.{same, stops}

@@ -7,7 +7,7 @@ use Rattle.lane_core.specs.declared.event.Slot.{Slot}
 use Rattle.hl_source.specs.State.{Progress, State, after, asks, ends_at, goes_with}
 use Rattle.hl_interpreter.specs.declared.run.Stop.{Stop}
 use Rattle.hl_interpreter.specs.Runs.{Meets}
-use Rattle.hl_interpreter.proofs.Loops.{flat}
+use Rattle.hl_interpreter.proofs.ListLoops.{flat}
 use Rattle.hl_interpreter.proofs.Meeting.{same, stops}
 
 -- the first four, with zeros behind them

@@ -15,7 +15,7 @@ pub mod HeldPaths
 pub mod HeldTypes
 pub mod Indexing
 pub mod Lanes
-pub mod Loops
+pub mod ListLoops
 pub mod Meeting
 pub mod Registers
 pub mod Running

@@ -3,7 +3,7 @@ use Rattle.std.proofs.Common.{◌≡◌, ◌∙◌, sym, ap, ℕ, suc, ◌+◌, 
 use Rattle.std.proofs.lemmas.List.{drop_all}
 use Rattle.std.specs.Prelude.{find, unwrap_or}
 use Rattle.std.specs.List.{cons_option, list_any, range_with_len}
-use Rattle.hl_interpreter.proofs.Loops.{counted-next}
+use Rattle.hl_interpreter.proofs.ListLoops.{counted-next}
 use Rattle.hl_interpreter.proofs.Turns.{drop-next, length-range}
 
 -- ---- what may be there, in order

@@ -4,15 +4,15 @@ use Rattle.lane_core.specs.declared.event.Reply.{Reply}
 use Rattle.lane_core.specs.Lane.{Lane, Run as LaneRunOf, standing}
 use Rattle.hl_meaning.specs.declared.program.FunctionDef.{FunctionDef}
 use Rattle.hl_meaning.specs.Programs as plain
-use Rattle.hl_meaning.specs.Trees.{Expr, Form, no_stmts}
+use Rattle.hl_meaning.specs.Trees.{Expr, Form, Stmt, no_stmts}
 use Rattle.hl_meaning.specs.Types.{Ty, void_type}
 use Rattle.hl_meaning.specs.Views.{plain_constant, plain_function, plain_resource, plain_structs, plain_variable}
 use Rattle.hl_source.specs.Expressions.{acts, operands}
 use Rattle.hl_source.specs.SourceLane.{callee_of, coordinates_of}
 use Rattle.hl_source.specs.State.{Callee, Context, Progress, State, after, ends_at, goes_with}
-use Rattle.hl_source.specs.Statements.{Doing, Leaving, at_end, by_break, by_continue, by_return, condition, leaves}
-use Rattle.hl_interpreter.specs.declared.expressions.Leaving.{Leaving as HeldLeaving}
-use Rattle.hl_interpreter.specs.declared.expressions.Leaving.TheVariants.{AtEnd, ByBreak, ByContinue, ByReturn}
+use Rattle.hl_source.specs.Statements.{Doing, Leaving, at_end, by_break, by_continue, by_return, condition, does, leaves}
+use Rattle.hl_interpreter.specs.declared.statements.Leaving.{Leaving as HeldLeaving}
+use Rattle.hl_interpreter.specs.declared.statements.Leaving.TheVariants.{AtEnd, ByBreak, ByContinue, ByReturn}
 use Rattle.hl_interpreter.specs.declared.lane.LaneRun.{LaneRun}
 use Rattle.hl_interpreter.specs.declared.run.Context.{Context as HeldContext}
 use Rattle.hl_interpreter.specs.declared.run.LanePlace.{LanePlace}
@@ -73,6 +73,10 @@ state_of replies s = record {
   exchange = record { asked = s.events; replies = drop (length s.events) replies };
 }
 
+-- the state while a function runs
+abbrev pub state_in : HeldContext → HeldState → State
+state_in c s = state_of c.run.now.replies.now s
+
 -- A part of a run goes on with what a call gives, seen so, in a state; or ends as the call says. A call that lacks memory
 -- says nothing.
 abbrev pub Meets : {A B : Type 0} → (A → B) → Result A Stop → State → Progress B → Type 0
@@ -98,6 +102,10 @@ plain_leaving AtEnd = at_end
 plain_leaving ByBreak = by_break
 plain_leaving ByContinue = by_continue
 plain_leaving (ByReturn value) = by_return value
+
+-- what a statement does in a function
+abbrev pub done_in : HeldContext → Stmt → Doing
+done_in c stmt = λ s. does (context_of c) c.run.now.turns stmt s
 
 -- how a loop is left, and none where another turn follows
 abbrev pub loop_left : Doing → Option HeldLeaving → Doing

@@ -1,12 +1,13 @@
-//! Atomic operations. Each is one event, whose reply is the word that was there before.
+//! Atomic operations. Each is one event, whose reply is the word that was there before. A function with errors also
+//! gives want of memory where memory is refused.
 
 ghost use Rattle.std.specs.Prelude.{◌≡◌, [], ◌∷◌};
-ghost use Rattle.hl_meaning.specs.Views.{plain_location, plain_maybe_location, plain_target};
+ghost use Rattle.hl_meaning.specs.Views.{plain_maybe_location, plain_target};
 ghost use Rattle.hl_source.specs.Expressions.{atomic_original, write_if};
 ghost use Rattle.hl_source.specs.Memory.{atomic_word, buffer_atomic, shared_atomic, shared_size, within};
 ghost use Rattle.hl_source.specs.State.{asks_word};
 ghost use Rattle.hl_interpreter.specs.HeldPlaces.{plain_holder};
-ghost use Rattle.hl_interpreter.specs.Runs.{Does, Meets, context_of, run_context, state_of};
+ghost use Rattle.hl_interpreter.specs.Runs.{Does, Meets, context_of, run_context, state_in, state_of};
 
 use crate::buffers::byte_offset;
 use crate::components::word_at;
@@ -14,7 +15,7 @@ use crate::memory::write_place;
 use crate::places::{Holder, place_of, slot_of};
 use crate::reading::shared_size;
 use crate::run::{Context, Run, Stop};
-use crate::state::{State, asks_word};
+use crate::state::{State, ask_word};
 use hl_meaning::{Location, Target};
 use lane_core::{AtomicKind, Cell, Event, LaneFault, Slot};
 
@@ -32,7 +33,7 @@ fn shared_atomic(cell: Cell, kind: Option<AtomicKind>, compare: u32, word: u32) 
     }
 }
 
-/// The same on a word of a buffer.
+/// The event on a word of a buffer: an operation of a kind, or else a compare exchange.
 fn buffer_atomic(
     slot: Slot,
     index: u32,
@@ -77,10 +78,11 @@ fn atomic_shared(
     if cell.word >= size {
         return Err(Stop::from(LaneFault::OutOfBounds));
     }
-    asks_word(run, shared_atomic(cell, kind, compare, word), state)
+    ask_word(run, shared_atomic(cell, kind, compare, word), state)
 }
 
-/// An atomic operation on a word of what a place stands in.
+/// An atomic operation on a word of what a place stands in. In a variable or a constant, which no well-formed program has
+/// as a target, it gives 0 and asks nothing.
 fn atomic_word(
     run: &Run,
     holder: Holder,
@@ -102,7 +104,7 @@ fn atomic_word(
         }
         Holder::Element { slot, index } => {
             let at = byte_offset(offset, 0);
-            asks_word(
+            ask_word(
                 run,
                 buffer_atomic(slot, index, at, kind, compare, word),
                 state,
@@ -116,7 +118,7 @@ fn atomic_word(
 /// The word that the target of an atomic operation had, with the words of its indexes or its address.
 ///
 /// # Errors
-/// The run ends at a word that isn't there, and at an event without a reply, as below.
+/// The fault `OutOfBounds` at a word that isn't there, and the end of the run where the event has no reply yet.
 pub(crate) fn atomic_original(
     context: &Context,
     target: &Target,
@@ -126,7 +128,7 @@ pub(crate) fn atomic_original(
     word: u32,
     state: &mut State,
 ) -> Result<u32, Stop>
-    ensures { Meets (λ before. before) result (state_of context.now.run.now.replies.now state.new) (atomic_original (context_of context.now) (plain_target target.now) kind indexes.now compare word (state_of context.now.run.now.replies.now state.old)) }
+    ensures { Meets (λ before. before) result (state_in context.now state.new) (atomic_original (context_of context.now) (plain_target target.now) kind indexes.now compare word (state_in context.now state.old)) }
 {
     let run = context.run;
     match target {
@@ -145,7 +147,7 @@ pub(crate) fn atomic_original(
         Target::Bytes { resource, .. } => {
             let slot = slot_of(run, *resource);
             let address = word_at(indexes, 0);
-            asks_word(
+            ask_word(
                 run,
                 buffer_atomic(slot, address, 0, kind, compare, word),
                 state,
@@ -154,7 +156,10 @@ pub(crate) fn atomic_original(
     }
 }
 
-/// The original value written where a place for it is given.
+/// Writes the original value where a place for it is given.
+///
+/// # Errors
+/// The fault `OutOfBounds` at a word that isn't there, and the end of the run at an event without a reply.
 pub(crate) fn write_original(
     context: &Context,
     original: &Option<Location>,
@@ -162,7 +167,7 @@ pub(crate) fn write_original(
     word: u32,
     state: &mut State,
 ) -> Result<(), Stop>
-    ensures { Does result (state_of context.now.run.now.replies.now state.new) (write_if (context_of context.now) (plain_maybe_location original.now) indexes.now (word ∷ []) (state_of context.now.run.now.replies.now state.old)) }
+    ensures { Does result (state_in context.now state.new) (write_if (context_of context.now) (plain_maybe_location original.now) indexes.now (word ∷ []) (state_in context.now state.old)) }
 {
     match original {
         Some(place) => write_place(context, place, indexes, &[word], state),

@@ -1,4 +1,5 @@
-//! Loads and stores of buffers, each of up to four words.
+//! Loads and stores of buffers, each of up to four words. A function with errors also gives want of memory where memory
+//! is refused.
 
 ghost use Rattle.std.specs.Prelude.{◌≡◌, ◌*◌, ◌^◌, ◌<◌, ◌++◌, drop, length, replicate, take};
 ghost use Rattle.hl_source.specs.Memory.{byte_offset, load_four, load_words, store_four, store_words};
@@ -6,7 +7,7 @@ ghost use Rattle.hl_interpreter.specs.Runs.{Does, Gives, state_of};
 
 use crate::components::{first_words, word_at};
 use crate::run::{Run, Stop};
-use crate::state::{State, asks, asks_four};
+use crate::state::{State, ask, ask_four};
 use base_core::Words;
 use lane_core::{Event, Slot};
 
@@ -20,7 +21,7 @@ pub(crate) fn byte_offset(offset: u32, words: u32) -> u32
 /// One load of four words at a byte offset of an element.
 ///
 /// # Errors
-/// The run ends where the event has no reply yet, as in each function below.
+/// The end of the run where the event has no reply yet.
 pub(crate) fn load_four(
     run: &Run,
     slot: Slot,
@@ -35,7 +36,7 @@ pub(crate) fn load_four(
         index,
         offset,
     };
-    asks_four(run, event, state)
+    ask_four(run, event, state)
 }
 
 /// The first four words, with 0 for those that aren't there.
@@ -74,11 +75,14 @@ pub(crate) fn store_four(
         count,
         words: four_words(words),
     };
-    asks(run, event, state)?;
+    ask(run, event, state)?;
     Ok(())
 }
 
 /// Reads words of an element: one load for every four of them or part of four.
+///
+/// # Errors
+/// The end of the run at a load without a reply.
 pub(crate) fn load_words(
     run: &Run,
     slot: Slot,
@@ -107,6 +111,9 @@ fn four_at<'a>(words: &'a [u32], first: usize) -> &'a [u32]
 }
 
 /// Writes words of an element: one store for every four of them or part of four.
+///
+/// # Errors
+/// The end of the run at a store without a reply.
 pub(crate) fn store_words(
     run: &Run,
     slot: Slot,

@@ -1,4 +1,5 @@
-//! Values by component: what operators, conversions and swizzles make of the words of values, in order.
+//! Values by component: what operators, conversions and swizzles make of the words of values, in order. All functions with
+//! an error give want of memory where memory is refused.
 
 ghost use Rattle.std.specs.Prelude.{◌≡◌, ◌∷◌, [], IfOk, map, replicate, slice_index, take};
 ghost use Rattle.hl_meaning.specs.Views.{plain_ty};
@@ -15,9 +16,6 @@ use hl_meaning::{HlType, Kind};
 use std::alloc::Global;
 
 /// A value of one word.
-///
-/// # Errors
-/// `NoMemory` where memory is refused, as in each function below.
 pub(crate) fn one_word(alloc: Global, word: u32) -> Result<Words, NoMemory>
     ensures { IfOk result (λ words. words ≡ word ∷ []) }
 {
@@ -27,11 +25,11 @@ pub(crate) fn one_word(alloc: Global, word: u32) -> Result<Words, NoMemory>
 }
 
 /// A word so many times.
-fn repeated(alloc: Global, word: u32, count: usize) -> Result<Words, NoMemory>
+fn repeat_word(alloc: Global, word: u32, count: usize) -> Result<Words, NoMemory>
     ensures { IfOk result (λ words. words ≡ replicate count word) }
 {
     let mut words = Words::new(alloc);
-    for _turn in 0..count {
+    for _done in 0..count {
         words.push(word)?;
     }
     Ok(words)
@@ -41,7 +39,7 @@ fn repeated(alloc: Global, word: u32, count: usize) -> Result<Words, NoMemory>
 pub(crate) fn zeros(alloc: Global, count: u32) -> Result<Words, NoMemory>
     ensures { IfOk result (λ words. words ≡ replicate count 0) }
 {
-    repeated(alloc, 0, count as usize)
+    repeat_word(alloc, 0, count as usize)
 }
 
 /// The word of a value at a place, and 0 past its end.
@@ -59,12 +57,12 @@ pub(crate) fn first_words(alloc: Global, words: &[u32], count: usize) -> Result<
 }
 
 /// A scalar repeated for a type, or a vector cut to it.
-fn resized(alloc: Global, from: &HlType, to: &HlType, words: &[u32]) -> Result<Words, NoMemory>
+fn resize(alloc: Global, from: &HlType, to: &HlType, words: &[u32]) -> Result<Words, NoMemory>
     ensures { IfOk result (λ sized. sized ≡ resized (plain_ty from.now) (plain_ty to.now) words.now) }
 {
     let count = component_count(to);
     match from {
-        HlType::Scalar(_) => repeated(alloc, word_at(words, 0), count),
+        HlType::Scalar(_) => repeat_word(alloc, word_at(words, 0), count),
         _ => first_words(alloc, words, count),
     }
 }
@@ -81,7 +79,7 @@ fn words_as(alloc: Global, kind: Kind, words: &[u32]) -> Result<Words, NoMemory>
 }
 
 /// A value of a scalar or a vector type as one of another.
-pub(crate) fn converted(
+pub(crate) fn convert(
     alloc: Global,
     from: &HlType,
     to: &HlType,
@@ -89,7 +87,7 @@ pub(crate) fn converted(
 ) -> Result<Words, NoMemory>
     ensures { IfOk result (λ value. value ≡ converted (plain_ty from.now) (plain_ty to.now) words.now) }
 {
-    let sized = resized(alloc, from, to, words)?;
+    let sized = resize(alloc, from, to, words)?;
     words_as(alloc, component_kind(to), sized.as_slice())
 }
 
@@ -154,7 +152,7 @@ pub(crate) fn chosen_words(
 }
 
 /// The words of a value that letters pick, and all where there are none.
-pub(crate) fn picked(alloc: Global, letters: &[u8], words: &[u32]) -> Result<Words, NoMemory>
+pub(crate) fn pick_words(alloc: Global, letters: &[u8], words: &[u32]) -> Result<Words, NoMemory>
     ensures { IfOk result (λ found. found ≡ picked letters.now words.now) }
 {
     if letters.is_empty() {

@@ -1,4 +1,5 @@
-//! What the intrinsic functions do with their arguments.
+//! What the intrinsic functions do with their arguments. A function with errors also gives want of memory where memory
+//! is refused.
 
 ghost use Rattle.std.specs.Prelude.{◌≡◌, [], ◌∷◌, IfOk, map};
 ghost use Rattle.lane_core.specs.declared.event.Event.TheVariants.{Barrier};
@@ -12,7 +13,7 @@ ghost use Rattle.hl_interpreter.specs.Runs.{Gives, lane_of, run_context, state_o
 use crate::components::{one_word, word_at};
 use crate::operations::{component_kind, less, word_as};
 use crate::run::{LanePlace, Run, Stop};
-use crate::state::{State, asks, asks_four, asks_word};
+use crate::state::{State, ask, ask_four, ask_word};
 use crate::words::{first_bit_low, holds, truth};
 use crate::works::{Judgement, OneWork, Told, TwoWork, Work, wave_kind, work_of};
 use base_core::{NoMemory, Words};
@@ -45,7 +46,7 @@ fn absolute(kind: Kind, word: u32) -> u32
 }
 
 /// What a function of one argument computes of a word.
-fn one_of(work: OneWork, kind: Kind, word: u32) -> u32
+fn compute_one(work: OneWork, kind: Kind, word: u32) -> u32
     ensures { result ≡ plain_one work kind word }
 {
     match work {
@@ -58,7 +59,7 @@ fn one_of(work: OneWork, kind: Kind, word: u32) -> u32
 }
 
 /// What `min` or `max` computes of two words.
-fn two_of(work: TwoWork, kind: Kind, left: u32, right: u32) -> u32
+fn compute_two(work: TwoWork, kind: Kind, left: u32, right: u32) -> u32
     ensures { result ≡ plain_two work kind left right }
 {
     match work {
@@ -68,18 +69,18 @@ fn two_of(work: TwoWork, kind: Kind, left: u32, right: u32) -> u32
 }
 
 /// Each word of an argument by itself.
-fn from_one(alloc: Global, work: OneWork, kind: Kind, words: &[u32]) -> Result<Words, NoMemory>
+fn compute_each(alloc: Global, work: OneWork, kind: Kind, words: &[u32]) -> Result<Words, NoMemory>
     ensures { IfOk result (λ values. values ≡ map (plain_one work kind) words.now) }
 {
     let mut result = Words::new(alloc);
     for word in words {
-        result.push(one_of(work, kind, *word))?;
+        result.push(compute_one(work, kind, *word))?;
     }
     Ok(result)
 }
 
 /// Each word of an argument with that of another.
-fn from_two(
+fn compute_each_pair(
     alloc: Global,
     work: TwoWork,
     kind: Kind,
@@ -90,13 +91,13 @@ fn from_two(
 {
     let mut result = Words::new(alloc);
     for at in 0..left.len().min(right.len()) {
-        result.push(two_of(work, kind, left[at], right[at]))?;
+        result.push(compute_two(work, kind, left[at], right[at]))?;
     }
     Ok(result)
 }
 
 /// Each word of an argument between those of two others.
-fn clamped(
+fn clamp_words(
     alloc: Global,
     kind: Kind,
     words: &[u32],
@@ -116,14 +117,14 @@ fn clamped(
 fn barrier(run: &Run, mode: u8, state: &mut State) -> Result<Words, Stop>
     ensures { Gives result (state_of run.now.replies.now state.new) (no_value (asks (Barrier mode) (state_of run.now.replies.now state.old))) }
 {
-    asks(run, Event::Barrier { mode }, state)?;
+    ask(run, Event::Barrier { mode }, state)?;
     Ok(Words::new(run.alloc))
 }
 
 /// A wave operation with each word, one event after another.
 ///
 /// # Errors
-/// The run ends where an event has no reply yet, as in each function below.
+/// The end of the run where an event has no reply yet.
 fn wave_words(
     run: &Run,
     wave: WaveKind,
@@ -141,14 +142,14 @@ fn wave_words(
             operand: *operand,
             lane,
         };
-        let word = asks_word(run, event, state)?;
+        let word = ask_word(run, event, state)?;
         found.push(word_as(kind, word))?;
     }
     Ok(found)
 }
 
 /// How all words of an argument are judged together.
-fn judges(judgement: Judgement, words: &[u32]) -> bool
+fn judge(judgement: Judgement, words: &[u32]) -> bool
     ensures { result ≡ plain_judgement judgement words.now }
 {
     match judgement {
@@ -158,7 +159,7 @@ fn judges(judgement: Judgement, words: &[u32]) -> bool
 }
 
 /// What is told of a lane.
-fn told_of(told: Told, lane: &LanePlace) -> u32
+fn tell(told: Told, lane: &LanePlace) -> u32
     ensures { result ≡ plain_told told (lane_of lane.now) }
 {
     match told {
@@ -168,12 +169,12 @@ fn told_of(told: Told, lane: &LanePlace) -> u32
 }
 
 /// What a function without an argument does.
-fn alone(run: &Run, work: Work, ty: &HlType, state: &mut State) -> Result<Words, Stop>
+fn call_with_none(run: &Run, work: Work, ty: &HlType, state: &mut State) -> Result<Words, Stop>
     ensures { Gives result (state_of run.now.replies.now state.new) (worked (run_context run.now) (plain_work work) (plain_ty ty.now) [] (state_of run.now.replies.now state.old)) }
 {
     match work {
         Work::Tell(told) => {
-            let words = one_word(run.alloc, told_of(told, run.lane))?;
+            let words = one_word(run.alloc, tell(told, run.lane))?;
             Ok(words)
         }
         Work::Barrier(mode) => barrier(run, mode, state),
@@ -183,7 +184,7 @@ fn alone(run: &Run, work: Work, ty: &HlType, state: &mut State) -> Result<Words,
 }
 
 /// What a function of one argument does.
-fn with_one(
+fn call_with_one(
     run: &Run,
     work: Work,
     ty: &HlType,
@@ -194,11 +195,11 @@ fn with_one(
 {
     match work {
         Work::One(one) => {
-            let words = from_one(run.alloc, one, component_kind(ty), words)?;
+            let words = compute_each(run.alloc, one, component_kind(ty), words)?;
             Ok(words)
         }
         Work::Judge(judgement) => {
-            let words = one_word(run.alloc, truth(judges(judgement, words)))?;
+            let words = one_word(run.alloc, truth(judge(judgement, words)))?;
             Ok(words)
         }
         Work::Wave(wave) => {
@@ -211,14 +212,14 @@ fn with_one(
                 operand: word_at(words, 0),
                 lane: 0,
             };
-            asks_four(run, event, state)
+            ask_four(run, event, state)
         }
         _ => Ok(Words::new(run.alloc)),
     }
 }
 
 /// What a function of two arguments does.
-fn with_two(
+fn call_with_two(
     run: &Run,
     work: Work,
     ty: &HlType,
@@ -230,7 +231,7 @@ fn with_two(
 {
     match work {
         Work::Two(two) => {
-            let words = from_two(run.alloc, two, component_kind(ty), words, others)?;
+            let words = compute_each_pair(run.alloc, two, component_kind(ty), words, others)?;
             Ok(words)
         }
         Work::WaveAt(wave) => {
@@ -242,7 +243,7 @@ fn with_two(
 }
 
 /// What a function of three arguments does.
-fn with_three(
+fn call_with_three(
     run: &Run,
     work: Work,
     ty: &HlType,
@@ -254,7 +255,7 @@ fn with_three(
 {
     match work {
         Work::Clamp => {
-            let words = clamped(run.alloc, component_kind(ty), words, low, high)?;
+            let words = clamp_words(run.alloc, component_kind(ty), words, low, high)?;
             Ok(words)
         }
         _ => Ok(Words::new(run.alloc)),
@@ -262,7 +263,10 @@ fn with_three(
 }
 
 /// What the intrinsic function of a number does with its arguments, for a result of a type.
-pub(crate) fn worked(
+///
+/// # Errors
+/// The end of the run at an event without a reply.
+pub(crate) fn call_intrinsic(
     run: &Run,
     number: u8,
     ty: &HlType,
@@ -273,10 +277,10 @@ pub(crate) fn worked(
 {
     let work = work_of(number);
     match arguments {
-        [] => alone(run, work, ty, state),
-        [words] => with_one(run, work, ty, words.as_slice(), state),
-        [words, others] => with_two(run, work, ty, words.as_slice(), others.as_slice(), state),
-        [words, low, high] => with_three(
+        [] => call_with_none(run, work, ty, state),
+        [words] => call_with_one(run, work, ty, words.as_slice(), state),
+        [words, others] => call_with_two(run, work, ty, words.as_slice(), others.as_slice(), state),
+        [words, low, high] => call_with_three(
             run,
             work,
             ty,

@@ -9,7 +9,7 @@ ghost use Rattle.hl_source.specs.SourceLane.{entry_run, source_lane};
 ghost use Rattle.lane_core.specs.Lane.{standing};
 ghost use Rattle.hl_interpreter.specs.Runs.{callees_behind, lane_of, run_of, state_of};
 
-use crate::expressions::runs;
+use crate::calling::run_function;
 use crate::inputs::inputs;
 use crate::run::{LanePlace, Run, Stop};
 use crate::slots::slots_of;
@@ -23,11 +23,18 @@ use std::alloc::Global;
 /// A run of a lane: the events that had a reply, in order, and where the lane stands after them.
 #[derive(Debug, Drop)]
 pub struct LaneRun {
+    /// The events that had a reply, in order.
     pub events: Sequence<Event>,
+    /// Where the lane stands after them.
     pub outcome: Asked,
 }
 
-/// The run of a lane of a program under these replies, where each loop takes at most so many turns.
+/// The run of a lane of a program under these replies, where each loop takes at most so many turns, counted anew each time
+/// that it is entered.
+///
+/// The first reply answers the first event, and so on; replies past the last event aren't read. The run ends with `Asks`
+/// at the first event without a reply, with `Goes` where a loop has no turns left, with `Fault` at a fault, and else with
+/// `Ended`.
 ///
 /// # Errors
 /// `NoMemory` where memory is refused.
@@ -82,7 +89,7 @@ fn run_entry(run: &Run, state: &mut State) -> Result<Asked, NoMemory>
         state.old.variables.items (state_of run.now.replies.now state.old).exchange) ≡ standing (state_of run.now.replies.now state.new).exchange outcome) }
 {
     let functions = run.program.functions.as_slice();
-    match runs(run, functions, run.program.entry, state) {
+    match run_function(run, functions, run.program.entry, state) {
         Ok(_) => Ok(Asked::Ended),
         Err(Stop::Ends(outcome)) => Ok(outcome),
         Err(Stop::Memory) => Err(NoMemory),

@@ -1,7 +1,7 @@
 //! A plain interpreter of one lane of a program. Its contract is the meaning of the program: what the lane asks, and how
 //! its run ends.
 //!
-//! It is slow and simple on purpose: each part of the meaning has one function here, which does what is said there.
+//! It is slow and simple on purpose: each part of the meaning, as `hl_source` defines it, has one function here.
 #![tactic(auto)]
 
 mod assignments;
@@ -11,8 +11,11 @@ mod calling;
 mod components;
 mod expressions;
 mod inputs;
+mod intrinsic_numbers;
 mod intrinsics;
 mod lane;
+mod loops;
+mod marks;
 mod memory;
 mod operations;
 mod places;
@@ -20,6 +23,7 @@ mod reading;
 mod run;
 mod slots;
 mod state;
+mod statements;
 mod variables;
 mod words;
 mod works;

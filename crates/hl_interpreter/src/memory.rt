@@ -1,4 +1,5 @@
-//! How places are read and written as values of their types.
+//! How places are read and written as values of their types. A function with errors also gives want of memory where
+//! memory is refused.
 
 ghost use Rattle.std.specs.Prelude.{◌≡◌, ◌∷◌, ◌^◌, ◌<◌, [], IfOk, length};
 ghost use Rattle.std.specs.List.{zip};
@@ -9,9 +10,9 @@ ghost use Rattle.hl_source.specs.Memory.{read_place, read_reached, write_letters
 ghost use Rattle.hl_source.specs.Operations.{map_2, picked, word_as};
 ghost use Rattle.hl_source.specs.State.{each, no_value};
 ghost use Rattle.hl_interpreter.specs.HeldPlaces.{plain_holder, plain_reached, plain_type};
-ghost use Rattle.hl_interpreter.specs.Runs.{Does, Gives, context_of, state_of};
+ghost use Rattle.hl_interpreter.specs.Runs.{Does, Gives, context_of, state_in};
 
-use crate::components::{picked, words_by_kind};
+use crate::components::{pick_words, words_by_kind};
 use crate::places::{Holder, Reached, place_of, reached_kinds, reached_words};
 use crate::reading::read_words;
 use crate::run::{Context, Run, Stop};
@@ -26,7 +27,7 @@ fn value_of(run: &Run, at: Reached, words: &[u32]) -> Result<Words, NoMemory>
 {
     let kinds = reached_kinds(run, at.ty)?;
     let value = words_by_kind(run.alloc, kinds.as_slice(), words)?;
-    picked(run.alloc, at.letters, value.as_slice())
+    pick_words(run.alloc, at.letters, value.as_slice())
 }
 
 /// The value of what was reached.
@@ -36,7 +37,7 @@ fn read_reached(
     at: Reached,
     state: &mut State,
 ) -> Result<Words, Stop>
-    ensures { Gives result (state_of context.now.run.now.replies.now state.new) (read_reached (context_of context.now) (plain_holder holder) (plain_reached at.entry) (state_of context.now.run.now.replies.now state.old)) }
+    ensures { Gives result (state_in context.now state.new) (read_reached (context_of context.now) (plain_holder holder) (plain_reached at.entry) (state_in context.now state.old)) }
 {
     let run = context.run;
     let count = reached_words(run.program, at.ty)?;
@@ -45,7 +46,7 @@ fn read_reached(
     Ok(value)
 }
 
-/// Words written one by one, each at the component of its letter.
+/// Writes words one by one, each at the component of its letter.
 fn write_each(
     context: &Context,
     holder: Holder,
@@ -54,8 +55,8 @@ fn write_each(
     words: &[u32],
     state: &mut State,
 ) -> Result<(), Stop>
-    ensures { Does result (state_of context.now.run.now.replies.now state.new)
-        (no_value (each (λ w. write_words (context_of context.now) (plain_holder holder) (wrapping_add offset w.0) (w.1 ∷ [])) (zip letters.now words.now) (state_of context.now.run.now.replies.now state.old))) }
+    ensures { Does result (state_in context.now state.new)
+        (no_value (each (λ w. write_words (context_of context.now) (plain_holder holder) (wrapping_add offset w.0) (w.1 ∷ [])) (zip letters.now words.now) (state_in context.now state.old))) }
 {
     for number in 0..letters.len().min(words.len()) {
         let at = offset.wrapping_add(u32::from(letters[number]));
@@ -64,8 +65,8 @@ fn write_each(
     Ok(())
 }
 
-/// A value written to what was reached. A swizzle of more than one letter writes its components one by one, in the order
-/// of the letters.
+/// Writes a value to what was reached. A swizzle of more than one letter writes its components one by one, in the order of
+/// the letters.
 fn write_letters(
     context: &Context,
     holder: Holder,
@@ -74,7 +75,7 @@ fn write_letters(
     state: &mut State,
 ) -> Result<(), Stop>
     requires { length words.now < 2 ^ 32 }
-    ensures { Does result (state_of context.now.run.now.replies.now state.new) (write_letters (context_of context.now) (plain_holder holder) at.entry.offset at.entry.letters.now words.now (state_of context.now.run.now.replies.now state.old)) }
+    ensures { Does result (state_in context.now state.new) (write_letters (context_of context.now) (plain_holder holder) at.entry.offset at.entry.letters.now words.now (state_in context.now state.old)) }
 {
     if at.letters.is_empty() {
         write_words(context, holder, at.offset, words, state)
@@ -86,20 +87,23 @@ fn write_letters(
 /// The value of a place, with the words of its indexes.
 ///
 /// # Errors
-/// The run ends at a word that isn't there, and at an event without a reply, as below.
+/// The fault `OutOfBounds` at a word that isn't there, and the end of the run at an event without a reply.
 pub(crate) fn read_place(
     context: &Context,
     location: &Location,
     indexes: &[u32],
     state: &mut State,
 ) -> Result<Words, Stop>
-    ensures { Gives result (state_of context.now.run.now.replies.now state.new) (read_place (context_of context.now) (plain_location location.now) indexes.now (state_of context.now.run.now.replies.now state.old)) }
+    ensures { Gives result (state_in context.now state.new) (read_place (context_of context.now) (plain_location location.now) indexes.now (state_in context.now state.old)) }
 {
     let place = place_of(context, location, indexes)?;
     read_reached(context, place.holder, place.reached, state)
 }
 
-/// A value written to a place, with the words of its indexes.
+/// Writes a value to a place, with the words of its indexes.
+///
+/// # Errors
+/// The fault `OutOfBounds` at a word that isn't there, and the end of the run at an event without a reply.
 pub(crate) fn write_place(
     context: &Context,
     location: &Location,
@@ -108,7 +112,7 @@ pub(crate) fn write_place(
     state: &mut State,
 ) -> Result<(), Stop>
     requires { length words.now < 2 ^ 32 }
-    ensures { Does result (state_of context.now.run.now.replies.now state.new) (write_place (context_of context.now) (plain_location location.now) indexes.now words.now (state_of context.now.run.now.replies.now state.old)) }
+    ensures { Does result (state_in context.now state.new) (write_place (context_of context.now) (plain_location location.now) indexes.now words.now (state_in context.now state.old)) }
 {
     let place = place_of(context, location, indexes)?;
     write_letters(context, place.holder, place.reached, words, state)

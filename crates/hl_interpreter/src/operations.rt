@@ -1,12 +1,13 @@
 //! What operators and conversions make of one word, or of one word of each operand.
 
-ghost use Rattle.std.specs.Prelude.{◌≡◌, ◌==◌, ◌&&◌, ◌||◌, not};
+ghost use Rattle.std.specs.Prelude.{◌≡◌, ◌==◌, ◌&&◌, ◌||◌};
 ghost use Rattle.hl_meaning.specs.Types.{component_count};
 ghost use Rattle.hl_meaning.specs.Views.{plain_ty};
 ghost use Rattle.hl_source.specs.Operations.{binary_word, by_sign, chosen_word, component_kind, less, unary_word, word_as};
 ghost use Rattle.lane_core.specs.Words.{signed_quotient, signed_remainder, signed_shift_right, unsigned_quotient, unsigned_remainder, unsigned_shift_right};
 ghost use Rattle.hl_interpreter.specs.Marks.{truth_of};
 
+use crate::marks;
 use crate::words::{
     holds, shift_left, signed_less, signed_quotient, signed_remainder, signed_shift_right, truth,
     unsigned_quotient, unsigned_remainder, unsigned_shift_right,
@@ -59,7 +60,7 @@ pub(crate) fn less(kind: Kind, left: u32, right: u32) -> bool
 /// A quotient of words of a kind.
 ///
 /// # Errors
-/// As of `signed_quotient` and `unsigned_quotient`.
+/// `DivideByZero` for the divisor 0, and for int `DivideOverflow` for the least number by -1.
 fn quotient(kind: Kind, left: u32, right: u32) -> Result<u32, LaneFault>
     ensures { result ≡ by_sign signed_quotient unsigned_quotient kind left right }
 {
@@ -72,7 +73,7 @@ fn quotient(kind: Kind, left: u32, right: u32) -> Result<u32, LaneFault>
 /// A remainder of words of a kind.
 ///
 /// # Errors
-/// As of `signed_remainder` and `unsigned_remainder`.
+/// `DivideByZero` for the divisor 0, and for int `DivideOverflow` for the least number by -1.
 fn remainder(kind: Kind, left: u32, right: u32) -> Result<u32, LaneFault>
     ensures { result ≡ by_sign signed_remainder unsigned_remainder kind left right }
 {
@@ -95,21 +96,21 @@ fn shift_right(kind: Kind, word: u32, count: u32) -> u32
 /// What the operator of a mark computes of two words of a kind.
 ///
 /// # Errors
-/// The faults of `/` and `%`.
+/// `DivideByZero` and `DivideOverflow`, which `/` and `%` have.
 pub(crate) fn binary_word(op: u8, kind: Kind, left: u32, right: u32) -> Result<u32, LaneFault>
     ensures { result ≡ binary_word op kind left right }
 {
     match op {
-        12 => Ok(left.wrapping_add(right)),
-        13 => Ok(left.wrapping_sub(right)),
-        14 => Ok(left.wrapping_mul(right)),
-        15 => quotient(kind, left, right),
-        16 => remainder(kind, left, right),
-        21 => Ok(left & right),
-        22 => Ok(left | right),
-        23 => Ok(left ^ right),
-        30 => Ok(shift_left(left, right)),
-        31 => Ok(shift_right(kind, left, right)),
+        marks::PLUS => Ok(left.wrapping_add(right)),
+        marks::MINUS => Ok(left.wrapping_sub(right)),
+        marks::TIMES => Ok(left.wrapping_mul(right)),
+        marks::DIVIDE => quotient(kind, left, right),
+        marks::MODULO => remainder(kind, left, right),
+        marks::BIT_AND => Ok(left & right),
+        marks::BIT_OR => Ok(left | right),
+        marks::BIT_XOR => Ok(left ^ right),
+        marks::SHIFT_LEFT => Ok(shift_left(left, right)),
+        marks::SHIFT_RIGHT => Ok(shift_right(kind, left, right)),
         _ => Ok(truth(is_true(op, kind, left, right))),
     }
 }
@@ -119,14 +120,14 @@ fn is_true(op: u8, kind: Kind, left: u32, right: u32) -> bool
     ensures { result ≡ truth_of op kind left right }
 {
     match op {
-        17 => less(kind, left, right),
-        18 => less(kind, right, left),
-        26 => left == right,
-        27 => left != right,
-        28 => !less(kind, right, left),
-        29 => !less(kind, left, right),
-        24 => holds(left) && holds(right),
-        25 => holds(left) || holds(right),
+        marks::LESS => less(kind, left, right),
+        marks::GREATER => less(kind, right, left),
+        marks::EQUAL => left == right,
+        marks::NOT_EQUAL => left != right,
+        marks::AT_MOST => !less(kind, right, left),
+        marks::AT_LEAST => !less(kind, left, right),
+        marks::AND => holds(left) && holds(right),
+        marks::OR => holds(left) || holds(right),
         _ => false,
     }
 }
@@ -136,9 +137,9 @@ pub(crate) fn unary_word(op: u8, word: u32) -> u32
     ensures { result ≡ unary_word op word }
 {
     match op {
-        13 => 0u32.wrapping_sub(word),
-        20 => !word,
-        19 => truth(!holds(word)),
+        marks::MINUS => 0u32.wrapping_sub(word),
+        marks::COMPLEMENT => !word,
+        marks::NOT => truth(!holds(word)),
         _ => word,
     }
 }

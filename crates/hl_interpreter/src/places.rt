@@ -11,7 +11,7 @@ ghost use Rattle.hl_source.specs.Operations.{component_kind};
 ghost use Rattle.hl_interpreter.specs.HeldPlaces.{index_count, literal_of, plain_holder, plain_place, plain_reached, plain_type};
 ghost use Rattle.hl_interpreter.specs.Runs.{context_of, run_context};
 
-use crate::components::{picked, word_at};
+use crate::components::{pick_words, word_at};
 use crate::operations::component_kind;
 use crate::run::{Context, Run};
 use base_core::{NoMemory, Sequence, Words};
@@ -49,7 +49,7 @@ pub(crate) enum Holder {
     Element { slot: Slot, index: u32 },
 }
 
-/// A place: what it stands in, and where in it.
+/// A place: what it stands in, and where in it its steps lead.
 #[derive(Clone, Copy)]
 pub(crate) struct Place<'a> {
     pub holder: Holder,
@@ -67,7 +67,7 @@ fn start_of<'a>(ty: ReachedType<'a>) -> Reached<'a>
     }
 }
 
-/// Something of a type, so many words behind a place.
+/// Something of a type, which begins so many words behind what was reached.
 fn further<'a>(from: Reached<'a>, ty: ReachedType<'a>, words: u32) -> Reached<'a>
     ensures { plain_reached result ≡ further (plain_reached from.entry) (plain_type ty.entry) words }
 {
@@ -81,7 +81,7 @@ fn further<'a>(from: Reached<'a>, ty: ReachedType<'a>, words: u32) -> Reached<'a
 /// The words of what was reached.
 ///
 /// # Errors
-/// `NoMemory` where they are too many to be held, as in each function below.
+/// `NoMemory` where they are too many to be held.
 pub(crate) fn reached_words(program: &Program, ty: ReachedType) -> Result<u32, NoMemory>
     ensures { IfOk result (λ words. words ≡ words_of (plain_structs program.now.structs) (plain_type ty.entry)) }
 {
@@ -93,6 +93,9 @@ pub(crate) fn reached_words(program: &Program, ty: ReachedType) -> Result<u32, N
 }
 
 /// The kinds of the words of a type.
+///
+/// # Errors
+/// `NoMemory` where memory is refused.
 pub(crate) fn kinds_of(run: &Run, ty: &HlType) -> Result<Kinds, NoMemory>
     ensures { IfOk result (λ kinds. kinds ≡ kinds_of (plain_structs run.now.program.now.structs) (plain_ty ty.now)) }
 {
@@ -100,6 +103,9 @@ pub(crate) fn kinds_of(run: &Run, ty: &HlType) -> Result<Kinds, NoMemory>
 }
 
 /// The kinds of the words of what was reached.
+///
+/// # Errors
+/// `NoMemory` where memory is refused.
 pub(crate) fn reached_kinds(run: &Run, ty: ReachedType) -> Result<Kinds, NoMemory>
     ensures { IfOk result (λ kinds. kinds ≡ kinds_of (plain_structs run.now.program.now.structs) (plain_type ty.entry)) }
 {
@@ -136,7 +142,7 @@ fn member_of<'a>(program: &'a Program, ty: ReachedType, number: u32) -> Option<&
     }
 }
 
-/// The same of a type that is held.
+/// The member of a number of a type that is a struct, and none of any other type.
 fn held_member<'a>(program: &'a Program, ty: &HlType, number: u32) -> Option<&'a Member>
     ensures { option_map (λ m. plain_member m.now) result ≡ member_of (plain_structs program.now.structs) (plain_ty ty.now) number }
 {
@@ -187,7 +193,7 @@ fn element_of<'a>(ty: ReachedType<'a>) -> ReachedType<'a>
     }
 }
 
-/// The same of a type that is held.
+/// The type of the elements of an array, and else of the components.
 fn held_element<'a>(ty: &'a HlType) -> ReachedType<'a>
     ensures { plain_type result ≡ element_of (plain_ty ty.now) }
 {
@@ -227,7 +233,7 @@ fn step_to_letters<'a>(from: Reached<'a>, letters: &'a [u8]) -> Reached<'a>
 }
 
 /// Where one step leads that isn't an index, or is one of this word.
-fn stepped<'a>(
+fn follow_step<'a>(
     program: &'a Program,
     from: Reached<'a>,
     part: &'a PathPart,
@@ -257,7 +263,7 @@ fn index_count(part: &PathPart) -> usize
 }
 
 /// Where steps lead to, with the words of the indexes in them.
-fn steps_to<'a>(
+fn follow_steps<'a>(
     program: &'a Program,
     start: ReachedType<'a>,
     parts: &'a [PathPart],
@@ -268,7 +274,7 @@ fn steps_to<'a>(
     let mut from = start_of(start);
     let mut next = 0;
     for part in parts {
-        from = stepped(program, from, part, word_at(indexes, next))?;
+        from = follow_step(program, from, part, word_at(indexes, next))?;
         next += index_count(part);
     }
     Ok(from)
@@ -327,7 +333,8 @@ fn element_type<'a>(resources: &'a [Resource], number: usize) -> ReachedType<'a>
     }
 }
 
-/// The slot of a buffer.
+/// The slot of a buffer. One that isn't there, which no well-formed program names, has the class 0, the space 0 and the
+/// register 0.
 pub(crate) fn slot_of(run: &Run, resource: u32) -> Slot
     ensures { result ≡ slot_of (run_context run.now) resource }
 {
@@ -375,6 +382,9 @@ fn indexes_of_steps<'a>(root: &Root, indexes: &'a [u32]) -> &'a [u32]
 }
 
 /// The place of a location, with the words of its indexes.
+///
+/// # Errors
+/// `NoMemory` where a part has too many words to be held.
 pub(crate) fn place_of<'a>(
     context: &Context<'a>,
     location: &'a Location,
@@ -384,7 +394,7 @@ pub(crate) fn place_of<'a>(
 {
     let steps = indexes_of_steps(&location.root, indexes);
     let start = root_type(context, &location.root);
-    let at = steps_to(context.run.program, start, location.parts.as_slice(), steps)?;
+    let at = follow_steps(context.run.program, start, location.parts.as_slice(), steps)?;
     Ok(Place {
         holder: holder_of(context.run, &location.root, indexes),
         reached: at,
@@ -433,6 +443,9 @@ fn words_at<'a>(words: &'a [u32], offset: u32, count: u32) -> &'a [u32]
 }
 
 /// What steps pick of the words of a value. Their indexes are literals.
+///
+/// # Errors
+/// `NoMemory` where memory is refused.
 pub(crate) fn picked_words(
     run: &Run,
     ty: &HlType,
@@ -443,7 +456,7 @@ pub(crate) fn picked_words(
 {
     let indexes = literal_indexes(run.alloc, parts)?;
     let start = ReachedType::Held(ty);
-    let at = steps_to(run.program, start, parts, indexes.as_slice())?;
+    let at = follow_steps(run.program, start, parts, indexes.as_slice())?;
     let count = reached_words(run.program, at.ty)?;
-    picked(run.alloc, at.letters, words_at(words, at.offset, count))
+    pick_words(run.alloc, at.letters, words_at(words, at.offset, count))
 }

@@ -1,22 +1,22 @@
-//! How the words of places are read.
+//! How the words of places are read. A function with errors also gives want of memory where memory is refused.
 
 ghost use Rattle.std.specs.Prelude.{◌≡◌, [], IfOk, slice_get, unwrap_or};
 ghost use Rattle.lane_core.specs.declared.event.Event.TheVariants.{SharedLoad};
 ghost use Rattle.hl_source.specs.Memory.{cell, constant_words, read_words, shared_size, within, word_of, word_offsets};
 ghost use Rattle.hl_source.specs.State.{State as PlainState, asks_word, each};
 ghost use Rattle.hl_interpreter.specs.HeldPlaces.{plain_holder};
-ghost use Rattle.hl_interpreter.specs.Runs.{Gives, Meets, context_of, run_context, state_of};
+ghost use Rattle.hl_interpreter.specs.Runs.{Gives, Meets, context_of, run_context, state_in, state_of};
 
 use crate::buffers::load_words;
 use crate::places::Holder;
 use crate::run::{Context, Run, Stop};
-use crate::state::{State, asks_word};
+use crate::state::{State, ask_word};
 use base_core::{NoMemory, Words};
 use hl_layout::words_of;
 use lane_core::{Cell, Event, LaneFault};
 use std::alloc::Global;
 
-/// The words of a constant.
+/// The words of a constant, none of one that isn't there.
 fn constant_words<'a>(run: &Run<'a>, number: u32) -> &'a [u32]
     ensures { result.now ≡ constant_words (run_context run.now) number }
 {
@@ -39,7 +39,7 @@ pub(crate) fn shared_size(run: &Run, number: u32) -> Result<u32, NoMemory>
     }
 }
 
-/// The words of a variable.
+/// The words of a variable, none of one that isn't there.
 fn variable_words(state: &State, number: u32) -> &[u32]
     ensures { result.now ≡ unwrap_or (slice_get state.now.variables.items number) [] }
 {
@@ -65,7 +65,7 @@ fn word_of(words: &[u32], offset: u32) -> Result<u32, Stop>
 /// So many words from an offset on, each sum wrapped.
 ///
 /// # Errors
-/// As of `word_of`, at the first one that isn't there.
+/// The fault `OutOfBounds` at the first one that isn't there.
 fn words_from(alloc: Global, words: &[u32], offset: u32, count: u32) -> Result<Words, Stop>
     ensures { (s : PlainState) → Gives result s (each (word_of words.now) (word_offsets offset count) s) }
 {
@@ -88,7 +88,7 @@ fn shared_word(run: &Run, number: u32, size: u32, at: u32, state: &mut State) ->
         variable: number,
         word: at,
     };
-    asks_word(run, Event::SharedLoad { cell }, state)
+    ask_word(run, Event::SharedLoad { cell }, state)
 }
 
 /// So many words of a groupshared variable, one event each.
@@ -117,7 +117,7 @@ fn shared_words(
 /// So many words from an offset of what a place stands in.
 ///
 /// # Errors
-/// As above.
+/// The fault `OutOfBounds` at the first one that isn't there, and the end of the run at an event without a reply.
 pub(crate) fn read_words(
     context: &Context,
     holder: Holder,
@@ -125,7 +125,7 @@ pub(crate) fn read_words(
     count: u32,
     state: &mut State,
 ) -> Result<Words, Stop>
-    ensures { Gives result (state_of context.now.run.now.replies.now state.new) (read_words (context_of context.now) (plain_holder holder) offset count (state_of context.now.run.now.replies.now state.old)) }
+    ensures { Gives result (state_in context.now state.new) (read_words (context_of context.now) (plain_holder holder) offset count (state_in context.now state.old)) }
 {
     let run = context.run;
     match holder {

@@ -10,12 +10,17 @@ use hl_meaning::{FunctionDef, Program};
 use lane_core::{Asked, LaneFault, Reply, Slot};
 use std::alloc::{AllocFailed, Global};
 
-/// Where a lane is: its group, its place in the group, its index in its wave, and the size of a wave.
+/// Where a lane is: its group, its place in the group, its index in its wave, and the size of a wave. Nothing is asked of
+/// the numbers: a place may be past the group, and an index past the wave.
 #[derive(Clone, Copy, Debug, PartialEq, Eq)]
 pub struct LanePlace {
+    /// The place of its group in the dispatch: x, y, z, each from 0.
     pub group: [u32; 3],
+    /// Its place in its group: x, y, z, each from 0.
     pub thread: [u32; 3],
+    /// Its index in its wave, from 0.
     pub lane_index: u32,
+    /// How many lanes a wave has.
     pub wave_size: u32,
 }
 
@@ -41,7 +46,8 @@ pub(crate) struct Context<'a> {
     pub function: &'a FunctionDef,
 }
 
-/// Why a run goes no further: memory was refused, or the lane stands there.
+/// Why a run goes no further: memory was refused, or the lane asks an event without a reply, meets a fault, or has no turns
+/// left in a loop.
 #[derive(Clone, Copy, Debug, PartialEq, Eq)]
 pub(crate) enum Stop {
     Memory,

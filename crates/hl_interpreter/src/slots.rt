@@ -17,7 +17,7 @@ pub(crate) type Slots = Sequence<Slot>;
 /// The slot of each buffer of a program, in order.
 ///
 /// # Errors
-/// `NoMemory` where memory is refused, as in each function below.
+/// `NoMemory` where memory is refused.
 pub(crate) fn slots_of(alloc: Global, resources: &[Resource]) -> Result<Slots, NoMemory>
     ensures { IfOk result (λ slots. slots ≡ slots_of (map plain_resource resources.now)) }
 {

@@ -23,6 +23,9 @@ fn push_variable(words: Words, state: &mut State) -> Result<(), NoMemory>
 }
 
 /// Adds the zeros of the variables of a function that aren't parameters.
+///
+/// # Errors
+/// `NoMemory` where memory is refused.
 pub(crate) fn add_variables(
     run: &Run,
     function: &FunctionDef,
@@ -42,7 +45,7 @@ pub(crate) fn add_variables(
     Ok(())
 }
 
-/// A variable gets these words.
+/// A variable gets these words. One that isn't there gets none.
 pub(crate) fn set_variable(variable: u32, words: Words, state: &mut State)
     ensures variables { state.new.variables.items ≡ slice_set state.old.variables.items variable words }
     ensures events { state.new.events ≡ state.old.events }

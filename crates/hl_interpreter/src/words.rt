@@ -5,6 +5,11 @@ ghost use Rattle.lane_core.specs.Words.{first_bit_low, holds, shift_left, signed
 
 use lane_core::LaneFault;
 
+/// The least signed number, as a word.
+const LEAST_SIGNED: u32 = 2147483648;
+/// The signed number -1, as a word: all its bits are ones.
+const ALL_ONES: u32 = u32::MAX;
+
 /// A truth value as a word.
 pub(crate) fn truth(value: bool) -> u32
     ensures { result ≡ truth value }
@@ -49,9 +54,9 @@ pub(crate) fn unsigned_remainder(dividend: u32, divisor: u32) -> Result<u32, Lan
 
 /// Whether the quotient of signed numbers fits no word: that of the least number by -1.
 fn is_too_large(dividend: u32, divisor: u32) -> bool
-    ensures { result ≡ (dividend == 2147483648 && divisor == 4294967295) }
+    ensures { result ≡ (dividend == LEAST_SIGNED && divisor == ALL_ONES) }
 {
-    dividend == 2147483648 && divisor == 4294967295
+    dividend == LEAST_SIGNED && divisor == ALL_ONES
 }
 
 /// A quotient of signed numbers, truncated toward zero.
@@ -102,7 +107,7 @@ pub(crate) fn unsigned_shift_right(word: u32, count: u32) -> u32
     word >> (count % 32)
 }
 
-/// The same of a signed word, which keeps its sign.
+/// A signed word shifted to the right by the low five bits of a count. It keeps its sign.
 pub(crate) fn signed_shift_right(word: u32, count: u32) -> u32
     ensures { result ≡ signed_shift_right word count }
 {
@@ -121,7 +126,7 @@ pub(crate) fn first_bit_low(word: u32) -> u32
     ensures { result ≡ first_bit_low word }
 {
     if word == 0 {
-        4294967295
+        ALL_ONES
     } else {
         word.trailing_zeros()
     }

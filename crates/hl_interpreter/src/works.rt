@@ -4,8 +4,16 @@ ghost use Rattle.std.specs.Prelude.{◌≡◌, ◌<◌};
 ghost use Rattle.hl_source.specs.Intrinsics.{work_of};
 ghost use Rattle.hl_interpreter.specs.HeldWorks.{plain_wave, plain_work};
 
+use crate::intrinsic_numbers as numbers;
 use hl_meaning::Kind;
 use lane_core::WaveKind;
+
+/// In the mode of a barrier: all lanes of the group wait for one another (DXIL.rst, "Barrier").
+const GROUP_SYNC: u8 = 1;
+/// In the mode of a barrier: what was done before to buffers is seen behind it.
+const BUFFER_MEMORY: u8 = 2;
+/// In the mode of a barrier: what was done before to groupshared memory is seen behind it.
+const GROUPSHARED_MEMORY: u8 = 8;
 
 /// What a function computes of each word of its argument.
 #[derive(Clone, Copy, Debug, PartialEq, Eq)]
@@ -51,21 +59,27 @@ pub(crate) enum WaveWork {
 /// What an intrinsic function does.
 #[derive(Clone, Copy, Debug, PartialEq, Eq)]
 pub(crate) enum Work {
+    /// It computes each word of its result from one of its argument.
     One(OneWork),
+    /// It computes each word of its result from one of each of its two arguments.
     Two(TwoWork),
     /// It brings each word of its first argument between those of the two others.
     Clamp,
+    /// It judges all words of its argument together.
     Judge(Judgement),
+    /// It tells something of the lane, without an event.
     Tell(Told),
+    /// It is a barrier of a mode.
     Barrier(u8),
+    /// It is a wave operation, with one event for each word of its argument.
     Wave(WaveWork),
     /// A wave operation with the lane that is read as its second argument.
     WaveAt(WaveKind),
-    /// One without an argument.
+    /// A wave operation without an argument.
     WaveAlone(WaveKind),
-    /// One with one component, and a reply of four words.
+    /// A wave operation with one component, and a reply of four words.
     WaveFour(WaveKind),
-    /// It is a form of expression of its own.
+    /// It is an atomic operation, which is a form of expression of its own.
     OwnForm,
 }
 
@@ -74,27 +88,31 @@ pub(crate) fn work_of(number: u8) -> Work
     ensures { plain_work result ≡ work_of number }
 {
     match number {
-        0 => Work::One(OneWork::Absolute),
-        1 => Work::Two(TwoWork::Lesser),
-        2 => Work::Two(TwoWork::Greater),
-        3 => Work::Clamp,
-        4 => Work::One(OneWork::CountBits),
-        5 => Work::One(OneWork::ReverseBits),
-        6 => Work::One(OneWork::FirstBitLow),
-        7 => Work::Judge(Judgement::Any),
-        8 => Work::Judge(Judgement::All),
-        9 => Work::One(OneWork::SameBits),
-        10 => Work::One(OneWork::SameBits),
-        20 => Work::Barrier(8),
-        21 => Work::Barrier(9),
-        22 => Work::Barrier(2),
-        23 => Work::Barrier(3),
-        24 => Work::Barrier(10),
-        25 => Work::Barrier(11),
-        26 => Work::WaveAlone(WaveKind::IsFirst),
-        27 => Work::Tell(Told::LaneIndex),
-        28 => Work::Tell(Told::WaveSize),
-        _ if number > 28 => wave_work_of(number),
+        numbers::ABS => Work::One(OneWork::Absolute),
+        numbers::MIN => Work::Two(TwoWork::Lesser),
+        numbers::MAX => Work::Two(TwoWork::Greater),
+        numbers::CLAMP => Work::Clamp,
+        numbers::COUNT_BITS => Work::One(OneWork::CountBits),
+        numbers::REVERSE_BITS => Work::One(OneWork::ReverseBits),
+        numbers::FIRST_BIT_LOW => Work::One(OneWork::FirstBitLow),
+        numbers::ANY => Work::Judge(Judgement::Any),
+        numbers::ALL => Work::Judge(Judgement::All),
+        numbers::AS_UINT => Work::One(OneWork::SameBits),
+        numbers::AS_INT => Work::One(OneWork::SameBits),
+        numbers::GROUP_MEMORY_BARRIER => Work::Barrier(GROUPSHARED_MEMORY),
+        numbers::GROUP_MEMORY_BARRIER_WITH_GROUP_SYNC => Work::Barrier(
+            GROUPSHARED_MEMORY + GROUP_SYNC,
+        ),
+        numbers::DEVICE_MEMORY_BARRIER => Work::Barrier(BUFFER_MEMORY),
+        numbers::DEVICE_MEMORY_BARRIER_WITH_GROUP_SYNC => Work::Barrier(BUFFER_MEMORY + GROUP_SYNC),
+        numbers::ALL_MEMORY_BARRIER => Work::Barrier(BUFFER_MEMORY + GROUPSHARED_MEMORY),
+        numbers::ALL_MEMORY_BARRIER_WITH_GROUP_SYNC => Work::Barrier(
+            BUFFER_MEMORY + GROUPSHARED_MEMORY + GROUP_SYNC,
+        ),
+        numbers::WAVE_IS_FIRST_LANE => Work::WaveAlone(WaveKind::IsFirst),
+        numbers::WAVE_GET_LANE_INDEX => Work::Tell(Told::LaneIndex),
+        numbers::WAVE_GET_LANE_COUNT => Work::Tell(Told::WaveSize),
+        _ if number > numbers::WAVE_GET_LANE_COUNT => wave_work_of(number),
         _ => Work::OwnForm,
     }
 }
@@ -105,23 +123,23 @@ fn wave_work_of(number: u8) -> Work
     ensures { plain_work result ≡ work_of number }
 {
     match number {
-        29 => always(WaveKind::AnyTrue),
-        30 => always(WaveKind::AllTrue),
-        31 => Work::WaveFour(WaveKind::Ballot),
-        32 => always(WaveKind::AllEqual),
-        33 => Work::WaveAt(WaveKind::ReadLaneAt),
-        34 => always(WaveKind::ReadLaneFirst),
-        35 => always(WaveKind::Sum),
-        36 => always(WaveKind::Product),
-        37 => by_sign(WaveKind::SignedMin, WaveKind::UnsignedMin),
-        38 => by_sign(WaveKind::SignedMax, WaveKind::UnsignedMax),
-        39 => always(WaveKind::PrefixSum),
-        40 => always(WaveKind::PrefixProduct),
-        41 => always(WaveKind::BitAnd),
-        42 => always(WaveKind::BitOr),
-        43 => always(WaveKind::BitXor),
-        44 => always(WaveKind::Sum),
-        45 => always(WaveKind::PrefixSum),
+        numbers::WAVE_ACTIVE_ANY_TRUE => always(WaveKind::AnyTrue),
+        numbers::WAVE_ACTIVE_ALL_TRUE => always(WaveKind::AllTrue),
+        numbers::WAVE_ACTIVE_BALLOT => Work::WaveFour(WaveKind::Ballot),
+        numbers::WAVE_ACTIVE_ALL_EQUAL => always(WaveKind::AllEqual),
+        numbers::WAVE_READ_LANE_AT => Work::WaveAt(WaveKind::ReadLaneAt),
+        numbers::WAVE_READ_LANE_FIRST => always(WaveKind::ReadLaneFirst),
+        numbers::WAVE_ACTIVE_SUM => always(WaveKind::Sum),
+        numbers::WAVE_ACTIVE_PRODUCT => always(WaveKind::Product),
+        numbers::WAVE_ACTIVE_MIN => by_sign(WaveKind::SignedMin, WaveKind::UnsignedMin),
+        numbers::WAVE_ACTIVE_MAX => by_sign(WaveKind::SignedMax, WaveKind::UnsignedMax),
+        numbers::WAVE_PREFIX_SUM => always(WaveKind::PrefixSum),
+        numbers::WAVE_PREFIX_PRODUCT => always(WaveKind::PrefixProduct),
+        numbers::WAVE_ACTIVE_BIT_AND => always(WaveKind::BitAnd),
+        numbers::WAVE_ACTIVE_BIT_OR => always(WaveKind::BitOr),
+        numbers::WAVE_ACTIVE_BIT_XOR => always(WaveKind::BitXor),
+        numbers::WAVE_ACTIVE_COUNT_BITS => always(WaveKind::Sum),
+        numbers::WAVE_PREFIX_COUNT_BITS => always(WaveKind::PrefixSum),
         _ => Work::OwnForm,
     }
 }
@@ -133,7 +151,7 @@ fn always(kind: WaveKind) -> Work
     Work::Wave(WaveWork::Always(kind))
 }
 
-/// A wave operation of one kind for int and another one for uint.
+/// A wave operation of one kind for int and of another one for uint.
 fn by_sign(signed: WaveKind, unsigned: WaveKind) -> Work
     ensures { result ≡ Work.Wave (WaveWork.BySign signed unsigned) }
 {

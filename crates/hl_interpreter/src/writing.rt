@@ -1,4 +1,4 @@
-//! How the words of places are written.
+//! How the words of places are written. A function with errors also gives want of memory where memory is refused.
 
 ghost use Rattle.std.specs.Prelude.{◌≡◌, ℕ, ◌^◌, ◌<◌, ◌≤◌, List, [], length, slice_get, slice_set, unwrap_or, zip};
 ghost use Rattle.lane_core.specs.declared.event.Reply.{Reply};
@@ -6,19 +6,19 @@ ghost use Rattle.lane_core.specs.declared.event.Event.TheVariants.{SharedStore};
 ghost use Rattle.hl_source.specs.Memory.{cell, shared_size, within, word_offsets, write_variable_word, write_words};
 ghost use Rattle.hl_source.specs.State.{State as PlainState, asks, each, no_value, variable_words, with_variable};
 ghost use Rattle.hl_interpreter.specs.HeldPlaces.{plain_holder};
-ghost use Rattle.hl_interpreter.specs.Runs.{Does, context_of, run_context, state_of};
+ghost use Rattle.hl_interpreter.specs.Runs.{Does, context_of, run_context, state_in, state_of};
 
 use crate::buffers::store_words;
 use crate::places::Holder;
 use crate::reading::shared_size;
 use crate::run::{Context, Run, Stop};
-use crate::state::{State, asks};
+use crate::state::{State, ask};
 use base_core::{Sequence, Words};
 use lane_core::{Cell, Event, LaneFault};
 use std::alloc::Global;
 use std::mem;
 
-/// A word written at a place.
+/// Writes a word at a place.
 ///
 /// # Errors
 /// The fault `OutOfBounds` where there is none.
@@ -34,10 +34,10 @@ fn set_word(variable: &mut [u32], at: u32, word: u32) -> Result<(), Stop>
     Ok(())
 }
 
-/// Words written from an offset on, each sum wrapped.
+/// Writes words from an offset on, each sum wrapped.
 ///
 /// # Errors
-/// As of `set_word`, at the first one that isn't there.
+/// The fault `OutOfBounds` at the first one that isn't there.
 fn set_words(variable: &mut [u32], offset: u32, words: &[u32]) -> Result<(), Stop>
     requires { length words.now < 2 ^ 32 }
     ensures { (number : ℕ) (s : PlainState) → number < length s.variables → variable_words s number ≡ variable.old
@@ -49,7 +49,7 @@ fn set_words(variable: &mut [u32], offset: u32, words: &[u32]) -> Result<(), Sto
     Ok(())
 }
 
-/// Words written to a variable that isn't there.
+/// Writes words to a variable that isn't there.
 fn set_nothing(words: &[u32]) -> Result<(), Stop>
     ensures { (number : ℕ) (offset : ℕ) (s : PlainState) → length s.variables ≤ number
         → Does result s (no_value (each (λ w. write_variable_word number w.0 w.1) (zip (word_offsets offset (length words.now)) words.now) s)) }
@@ -71,10 +71,10 @@ fn take_variable(alloc: Global, number: usize, state: &mut State) -> Vec<u32>
     mem::replace(&mut state.variables[number], Words::new(alloc)).into_vec()
 }
 
-/// Words of a variable written.
+/// Writes words of a variable.
 ///
 /// # Errors
-/// As of `set_words`.
+/// The fault `OutOfBounds` at the first one that isn't there.
 fn write_variable(
     alloc: Global,
     number: u32,
@@ -96,7 +96,7 @@ fn write_variable(
     Ok(())
 }
 
-/// One word of a groupshared variable written.
+/// Writes one word of a groupshared variable.
 fn write_shared_word(
     run: &Run,
     number: u32,
@@ -114,11 +114,11 @@ fn write_shared_word(
         variable: number,
         word: at,
     };
-    asks(run, Event::SharedStore { cell, word }, state)?;
+    ask(run, Event::SharedStore { cell, word }, state)?;
     Ok(())
 }
 
-/// Words of a groupshared variable written, one event each.
+/// Writes words of a groupshared variable, one event each.
 ///
 /// # Errors
 /// The fault `OutOfBounds` at the first one that isn't there, and the end of the run at an event without a reply.
@@ -141,10 +141,10 @@ fn write_shared(
     Ok(())
 }
 
-/// Words written from an offset of what a place stands in. Nothing is written to a constant.
+/// Writes words from an offset of what a place stands in. Nothing is written to a constant.
 ///
 /// # Errors
-/// As above.
+/// The fault `OutOfBounds` at the first one that isn't there, and the end of the run at an event without a reply.
 pub(crate) fn write_words(
     context: &Context,
     holder: Holder,
@@ -153,7 +153,7 @@ pub(crate) fn write_words(
     state: &mut State,
 ) -> Result<(), Stop>
     requires { length words.now < 2 ^ 32 }
-    ensures { Does result (state_of context.now.run.now.replies.now state.new) (write_words (context_of context.now) (plain_holder holder) offset words.now (state_of context.now.run.now.replies.now state.old)) }
+    ensures { Does result (state_in context.now state.new) (write_words (context_of context.now) (plain_holder holder) offset words.now (state_in context.now state.old)) }
 {
     let run = context.run;
     match holder {

@@ -26,8 +26,8 @@ pub returns-in-Bytes : goal.returns-in-Bytes
 returns-in-Bytes c =
     let context = context_of c.args.context.now in
     let s = state_of c.args.context.now.run.now.replies.now c.args.state.now in
-    same (λ w. w) c.asks_word.result _ _ _
+    same (λ w. w) c.ask_word.result _ _ _
     (ap (λ e. asks_word e s) (c.buffer_atomic.ensures ∙ (ap (λ slot. buffer_atomic slot c.word_at-address.result 0 c.args.kind c.args.compare c.args.word) c.slot_of-slot.ensures ∙
     ap (λ address. buffer_atomic (slot_of context c.in-Bytes.resource) address 0 c.args.kind c.args.compare c.args.word) c.word_at-address.ensures)) ∙
     sym (ap (λ t. atomic_original context t c.args.kind c.args.indexes.now c.args.compare c.args.word s) (ap plain_target c.in-Bytes.is ∙ plain_target-Bytes c.in-Bytes.resource _)))
-    c.asks_word.ensures
+    c.ask_word.ensures

@@ -24,8 +24,8 @@ pub returns : goal.returns
 returns c =
     let cell = c.args.cell in
     let s = state_of c.args.run.now.replies.now c.args.state.now in
-    same (λ w. w) c.asks_word.result _ _ _
+    same (λ w. w) c.ask_word.result _ _ _
     (ap (λ e. asks_word e s) c.shared_atomic.ensures ∙
     sym (within-in cell.word (shared_size (run_context c.args.run.now) cell.variable) (asks_word (shared_atomic cell c.args.kind c.args.compare c.args.word)) s
     (subst (λ n. cell.word < n) c.in_ok-size.ensures c.if-cell-size.false)))
-    c.asks_word.ensures
+    c.ask_word.ensures

@@ -14,10 +14,10 @@ returns-in-Shared c =
 pub returns-in-Element : goal.returns-in-Element
 returns-in-Element c =
     let s = state_of c.args.run.now.replies.now c.args.state.now in
-    same (λ w. w) c.asks_word.result _ _ _
+    same (λ w. w) c.ask_word.result _ _ _
     (ap (λ e. asks_word e s) (c.buffer_atomic.ensures ∙ ap (λ at. buffer_atomic c.in-Element.slot c.in-Element.index at c.args.kind c.args.compare c.args.word) c.byte_offset-at.ensures) ∙
     sym (ap (λ h. atomic_word (run_context c.args.run.now) (plain_holder h) c.args.offset c.args.kind c.args.compare c.args.word s) c.in-Element.is))
-    c.asks_word.ensures
+    c.ask_word.ensures
 
 pub returns-in-Variable : goal.returns-in-Variable
 returns-in-Variable c =

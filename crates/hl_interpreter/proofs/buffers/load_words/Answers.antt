@@ -5,7 +5,7 @@ use Rattle.hl_source.specs.State.{Progress, State, each, goes_with}
 use Rattle.hl_interpreter.specs.Runs.{state_of}
 use Rattle.hl_interpreter.proofs.Exits.{memory-exit, stop-exit}
 use Rattle.hl_interpreter.proofs.Fours.{cut-goes, cut-stops}
-use Rattle.hl_interpreter.proofs.Loops.{flat, flat-end, flat-stops, flat-turn, length-pieces, piece-next}
+use Rattle.hl_interpreter.proofs.ListLoops.{flat, flat-end, flat-stops, flat-turn, length-pieces, piece-next}
 use Rattle.hl_interpreter.proofs.Meeting.{behind, behind-none, same}
 use Rattle.hl_interpreter.proofs.buffers.load_words.Goals as goal
 

@@ -2,7 +2,7 @@ use Rattle.std.proofs.Common.{◌≡◌, drop}
 use Rattle.hl_source.specs.Memory.{byte_offset, load_four, pieces}
 use Rattle.hl_source.specs.State.{each}
 use Rattle.hl_interpreter.specs.Runs.{state_of}
-use Rattle.hl_interpreter.proofs.Loops.{flat}
+use Rattle.hl_interpreter.proofs.ListLoops.{flat}
 use Rattle.hl_interpreter.proofs.Meeting.{behind}
 use Rattle.hl_interpreter.proofs.buffers.load_words.Given as goal
 

@@ -4,7 +4,7 @@ use Rattle.hl_source.specs.Memory.{byte_offset, pieces, store_four}
 use Rattle.hl_source.specs.State.{Progress, State, goes_with, no_value}
 use Rattle.hl_interpreter.specs.Runs.{state_of}
 use Rattle.hl_interpreter.proofs.Exits.{effect, stop-exit}
-use Rattle.hl_interpreter.proofs.Loops.{done-end, done-stops, done-turn, length-pieces, piece-next}
+use Rattle.hl_interpreter.proofs.ListLoops.{done-end, done-stops, done-turn, length-pieces, piece-next}
 use Rattle.hl_interpreter.proofs.Meeting.{same, stops}
 use Rattle.hl_interpreter.proofs.buffers.store_words.Goals as goal
 

@@ -5,7 +5,7 @@ use Rattle.hl_source.specs.Operations.{word_as}
 use Rattle.hl_source.specs.State.{after, each, goes_with}
 use Rattle.hl_interpreter.specs.Runs.{state_of}
 use Rattle.hl_interpreter.proofs.Exits.{memory-exit, stop-exit}
-use Rattle.hl_interpreter.proofs.Loops.{gathered-end, gathered-stops, gathered-turn}
+use Rattle.hl_interpreter.proofs.ListLoops.{gathered-end, gathered-stops, gathered-turn}
 use Rattle.hl_interpreter.proofs.Meeting.{behind, behind-none, stops}
 use Rattle.hl_interpreter.proofs.Turns.{drop-next}
 use Rattle.hl_interpreter.proofs.intrinsics.wave_words.Goals as goal
@@ -22,7 +22,7 @@ loop-operand-preserved c =
     let i = c.loop-operand.operand-index in
     let x = get_or words i 0 in
     let s = state_of c.args.run.now.replies.now c.loop-operand.state in
-    let t = state_of c.args.run.now.replies.now c.asks_word.new.state in
+    let t = state_of c.args.run.now.replies.now c.ask_word.new.state in
     gathered-turn part words _ i x c.loop-operand.found c.word_as.result s t (drop-next words i x c.loop-operand-test.true (get_or_default words i 0 x c.loop-operand-test.true)) c.loop-operand.invariant
     (ap (λ p. after p (λ reply u. goes_with (word_as c.args.kind reply) u)) c.in_ok-word.ensures ∙ ap (λ w. goes_with w t) (sym c.word_as.ensures)) ∙
     ap (λ l. behind l (each part (drop (i + 1) words) t)) (sym c.in_ok-push.ensures.ok)
@@ -35,7 +35,7 @@ returns-in_err-word c =
     let x = get_or words i 0 in
     let e = c.in_err-word.field-0.0 in
     let s = state_of c.args.run.now.replies.now c.loop-operand.state in
-    let t = state_of c.args.run.now.replies.now c.asks_word.new.state in
+    let t = state_of c.args.run.now.replies.now c.ask_word.new.state in
     stop-exit (λ w. w) c.from_residual.result e t _ c.from_residual.ensures.1
     (gathered-stops part words _ (λ w. w) (λ w. w) i x c.loop-operand.found e s t (drop-next words i x c.loop-operand-test.true (get_or_default words i 0 x c.loop-operand-test.true)) c.loop-operand.invariant
     (stops (λ w. w) (λ w. w) e t _ (λ reply u. goes_with (word_as c.args.kind reply) u) c.in_err-word.ensures))

@@ -9,7 +9,7 @@ use Rattle.hl_source.specs.State.{Context, Progress, State, goes_with, no_value}
 use Rattle.hl_interpreter.specs.HeldPlaces.{plain_holder}
 use Rattle.hl_interpreter.specs.Runs.{context_of, state_of}
 use Rattle.hl_interpreter.proofs.Exits.{effect, stop-exit}
-use Rattle.hl_interpreter.proofs.Loops.{done-end, done-stops, done-turn, zipped-next}
+use Rattle.hl_interpreter.proofs.ListLoops.{done-end, done-stops, done-turn, zipped-next}
 use Rattle.hl_interpreter.proofs.Meeting.{same, stops}
 use Rattle.hl_interpreter.proofs.Turns.{drop-next}
 use Rattle.hl_interpreter.proofs.memory.write_each.Goals as goal

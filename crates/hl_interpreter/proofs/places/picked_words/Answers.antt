@@ -11,7 +11,7 @@ returns c =
     let words = c.args.words.now in
     let at = c.in_ok-at.at in
     let parts = plain_parts c.args.parts.now in
-    IfOk-weaker c.picked.result _ _
+    IfOk-weaker c.pick_words.result _ _
     (λ found e. e ∙ (ap (picked at.letters.now) (c.words_at.ensures ∙ ap (λ n. take n (drop at.offset words)) c.in_ok-count.ensures) ∙
     ap (λ r. picked_reached structs r words) (c.in_ok-at.ensures ∙ ap (reached structs (start_of (plain_ty c.args.ty.now)) parts) (c.as_slice.ensures.value ∙ c.in_ok-indexes.ensures))))
-    c.picked.ensures
+    c.pick_words.ensures

@@ -18,4 +18,4 @@ returns-then-at-size c =
 pub returns : goal.returns
 returns c =
     let s = state_of c.args.run.now.replies.now c.args.state.now in
-    same (λ w. w) c.asks_word.result _ _ _ (sym (within-in c.args.at c.args.size (asks_word (SharedLoad (cell c.args.number c.args.at))) s c.if-at-size.false)) c.asks_word.ensures
+    same (λ w. w) c.ask_word.result _ _ _ (sym (within-in c.args.at c.args.size (asks_word (SharedLoad (cell c.args.number c.args.at))) s c.if-at-size.false)) c.ask_word.ensures

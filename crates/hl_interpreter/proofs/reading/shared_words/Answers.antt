@@ -5,7 +5,7 @@ use Rattle.hl_source.specs.Memory.{cell, shared_size, within, word_offsets}
 use Rattle.hl_source.specs.State.{Progress, State, asks_word, each}
 use Rattle.hl_interpreter.specs.Runs.{run_context, state_of}
 use Rattle.hl_interpreter.proofs.Exits.{memory-exit, stop-exit}
-use Rattle.hl_interpreter.proofs.Loops.{gathered-end, gathered-stops, gathered-turn, length-offsets, offset-next}
+use Rattle.hl_interpreter.proofs.ListLoops.{gathered-end, gathered-stops, gathered-turn, length-offsets, offset-next}
 use Rattle.hl_interpreter.proofs.Meeting.{behind, behind-none, same}
 use Rattle.hl_interpreter.proofs.reading.shared_words.Goals as goal
 

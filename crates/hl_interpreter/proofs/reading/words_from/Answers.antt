@@ -3,7 +3,7 @@ use Rattle.lane_core.specs.Words.{wrapping_add}
 use Rattle.hl_source.specs.Memory.{word_of, word_offsets}
 use Rattle.hl_source.specs.State.{each}
 use Rattle.hl_interpreter.proofs.Exits.{memory-exit, stop-exit}
-use Rattle.hl_interpreter.proofs.Loops.{gathered-end, gathered-stops, gathered-turn, length-offsets, offset-next}
+use Rattle.hl_interpreter.proofs.ListLoops.{gathered-end, gathered-stops, gathered-turn, length-offsets, offset-next}
 use Rattle.hl_interpreter.proofs.Meeting.{behind, behind-none}
 use Rattle.hl_interpreter.proofs.reading.words_from.Goals as goal
 

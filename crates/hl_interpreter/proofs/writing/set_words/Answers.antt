@@ -7,7 +7,7 @@ use Rattle.hl_source.specs.State.{Progress, State, each, goes_with, no_value, wi
 use Rattle.hl_interpreter.specs.Runs.{Does}
 use Rattle.hl_interpreter.proofs.Cells.{variable-same, variable-twice, variable-written, variables-kept}
 use Rattle.hl_interpreter.proofs.Exits.{effect, stop-exit}
-use Rattle.hl_interpreter.proofs.Loops.{done-end, done-stops, done-turn, length-written, written-next}
+use Rattle.hl_interpreter.proofs.ListLoops.{done-end, done-stops, done-turn, length-written, written-next}
 use Rattle.hl_interpreter.proofs.writing.set_words.Goals as goal
 
 abbrev part_of : (number : ℕ) → ℕ × ℕ → State → Progress (List ℕ)

@@ -8,7 +8,7 @@ use Rattle.hl_source.specs.Memory.{cell, shared_size, within, word_offsets}
 use Rattle.hl_source.specs.State.{Progress, State, asks, no_value}
 use Rattle.hl_interpreter.specs.Runs.{run_context, state_of}
 use Rattle.hl_interpreter.proofs.Exits.{effect, memory-exit, stop-exit}
-use Rattle.hl_interpreter.proofs.Loops.{done-end, done-stops, done-turn, length-written, written-next}
+use Rattle.hl_interpreter.proofs.ListLoops.{done-end, done-stops, done-turn, length-written, written-next}
 use Rattle.hl_interpreter.proofs.Meeting.{same}
 use Rattle.hl_interpreter.proofs.writing.write_shared.Goals as goal
 

@@ -11,7 +11,8 @@ use Rattle.hl_meaning.specs.Trees.{Expr, Form, Location, MaybeLocation, Target, 
 use Rattle.hl_meaning.specs.Programs.{Variable}
 use Rattle.lane_core.specs.Words.{wrapped}
 use Rattle.hl_source.specs.Operations.{binary_words, component_kind, converted}
-use Rattle.hl_source.specs.State.{Context, State, gives, goes_with, reply_words}
+use Rattle.hl_source.specs.State.{Context, State, gives, goes_with}
+use Rattle.lane_core.specs.Replies.{reply_words}
 use Rattle.hl_source.specs.Offsets.{picked_words}
 use Rattle.hl_source.specs.Intrinsics.{Work, barrier, from_all, from_one, from_three, from_two, of_lane, own_form, wave, wave_alone, wave_at, wave_four, wave_words, work_of, worked}
 use Rattle.hl_source.specs.Expressions.{acts, assigned, assigns, atomic_original, read_if, write_if}

@@ -22,7 +22,8 @@ use Rattle.hl_meaning.proofs.LayoutLemmas.{words-scalar, words-vector}
 use Rattle.hl_source.specs.State.{Context, Progress, State, after, goes_with, variable_words, with_variable}
 use Rattle.hl_source.specs.Statements.{at_end}
 use Rattle.hl_source.specs.Expressions.{acts, evaluates, values}
-use Rattle.hl_source.specs.SourceLane.{coordinates_of, input_words, semantic_components}
+use Rattle.hl_source.specs.SourceLane.{input_words, semantic_components}
+use Rattle.lane_core.specs.Inputs.{coordinates_of}
 use Rattle.hl_inline.specs.FlatTrees.{Flat, flat_input}
 use Rattle.hl_inline.specs.FlatLane.{FlatLeaving, flat_context, flat_end, then_flat}
 use Rattle.hl_inline.specs.InlinedPrograms.{constant_value, literals, set_constants, set_inputs}

@@ -13,7 +13,8 @@ use Rattle.hl_meaning.specs.Intrinsics.{HasSignature, HasSignatureOf, Intrinsic,
 use Rattle.hl_meaning.specs.Programs.{StructDef}
 use Rattle.lane_core.specs.Words.{truth, wrapped}
 use Rattle.hl_source.specs.Operations.{component_kind, map_2, map_3, word_as}
-use Rattle.hl_source.specs.State.{Context, Progress, State, asks, asks_word, each, reply_words}
+use Rattle.hl_source.specs.State.{Context, Progress, State, asks, asks_word, each}
+use Rattle.lane_core.specs.Replies.{reply_words}
 use Rattle.hl_source.specs.Intrinsics.{Work, barrier, from_all, from_one, from_three, from_two, of_lane, own_form, wave, wave_alone, wave_at, wave_four, wave_word, wave_words, work_of, worked, works}
 use Rattle.hl_inline.proofs.Induction.{Every}
 use Rattle.hl_inline.proofs.FittingWords.{Fits, HasKinds, word_as_twice}

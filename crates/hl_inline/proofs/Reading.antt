@@ -18,7 +18,8 @@ use Rattle.hl_meaning.specs.Places.{root_type}
 use Rattle.hl_meaning.specs.Programs.{StructDef, Variable}
 use Rattle.hl_meaning.specs.Layout.{words_of}
 use Rattle.lane_core.specs.Words.{wrapping_add}
-use Rattle.hl_source.specs.State.{Context, Progress, State, after, asks, asks_word, each, ends_at, faults, gives, goes_with, reply_word, reply_words, variable_words, with_variable}
+use Rattle.hl_source.specs.State.{Context, Progress, State, after, asks, asks_word, each, ends_at, faults, gives, goes_with, variable_words, with_variable}
+use Rattle.lane_core.specs.Replies.{reply_word, reply_words}
 use Rattle.hl_source.specs.Offsets.{Holder, Place, Reached, step_to_element, step_to_member, step_to_letters, holder_of, in_constant, in_element, in_shared, in_variable, member_of, place_of, reached, start_of, indexes_of_steps, type_of_root}
 use Rattle.hl_source.specs.Memory.{atomic_word, byte_offset, constant_words, load_four, load_words, pieces, read_place, read_reached, read_words, shared_size, store_four, store_words, within, word_of, word_offsets, write_letters, write_place, write_variable_word, write_words}
 use Rattle.hl_inline.specs.Operands.{filled_parts, filled_place, filled_root, behind_root}

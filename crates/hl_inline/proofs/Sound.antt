@@ -25,7 +25,8 @@ use Rattle.hl_meaning.proofs.LayoutForms.{length-kinds_of}
 use Rattle.hl_meaning.proofs.LayoutLemmas.{words-void}
 use Rattle.lane_core.specs.Words.{wrapping_add}
 use Rattle.hl_source.specs.Operations.{binary_words, component_kind, converted, map_2, picked, word_as}
-use Rattle.hl_source.specs.State.{Context, Progress, State, after, asks, asks_word, each, gives, no_value, reply_words, variable_words}
+use Rattle.hl_source.specs.State.{Context, Progress, State, after, asks, asks_word, each, gives, no_value, variable_words}
+use Rattle.lane_core.specs.Replies.{reply_words}
 use Rattle.hl_source.specs.Offsets.{Holder, Reached, in_constant, in_element, in_shared, in_variable, indexes_of_steps, literal_indexes, picked_words, place_of, reached, slot_of, start_of, type_of_root}
 use Rattle.hl_source.specs.Memory.{byte_offset, cell, constant_words, load_four, pieces, read_place, read_words, shared_size, within, word_of, word_offsets, write_place}
 use Rattle.hl_source.specs.Expressions.{acts, arguments, assigned, atomic_original, assigns, copies_out, evaluates, no_callee, parameters_of, read_if, initial_parameters, write_if}

@@ -11,7 +11,8 @@ use Rattle.hl_source.specs.State.{Context, Progress, State, after, ends_at, goes
 use Rattle.hl_source.specs.Memory.{zeros_of}
 use Rattle.hl_source.specs.Expressions.{evaluates}
 use Rattle.hl_source.specs.Statements.{condition, declares}
-use Rattle.hl_source.specs.SourceLane.{coordinates_of, semantic_components}
+use Rattle.hl_source.specs.SourceLane.{semantic_components}
+use Rattle.lane_core.specs.Inputs.{coordinates_of}
 use Rattle.hl_inline.specs.FlatTrees.{Flat, FlatStmt, FlatStmts, MaybeFlatStmt, flat_block, flat_if, flat_input, flat_leave, flat_local, flat_loop, flat_named, flat_run, more_flat_stmts, no_flat_stmt, no_flat_stmts, some_flat_stmt}
 use Rattle.hl_inline.specs.FlatWellFormed.{flat_scope}
 

@@ -8,7 +8,8 @@ use Rattle.hl_meaning.specs.Trees.{Expr, Form, Stmt, no_stmts}
 use Rattle.hl_meaning.specs.Types.{Ty, void_type}
 use Rattle.hl_meaning.specs.Views.{plain_constant, plain_function, plain_resource, plain_structs, plain_variable}
 use Rattle.hl_source.specs.Expressions.{acts, operands}
-use Rattle.hl_source.specs.SourceLane.{callee_of, coordinates_of}
+use Rattle.hl_source.specs.SourceLane.{callee_of}
+use Rattle.lane_core.specs.Inputs.{coordinates_of}
 use Rattle.hl_source.specs.State.{Callee, Context, Progress, State, after, ends_at, goes_with}
 use Rattle.hl_source.specs.Statements.{Doing, Leaving, at_end, by_break, by_continue, by_return, condition, does, leaves}
 use Rattle.hl_interpreter.specs.declared.statements.Leaving.{Leaving as HeldLeaving}

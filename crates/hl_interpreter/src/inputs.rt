@@ -5,7 +5,8 @@ ghost use Rattle.hl_meaning.specs.Held.{plain_program};
 ghost use Rattle.hl_meaning.specs.Places.{variable_type};
 ghost use Rattle.hl_meaning.specs.Types.{component_count, void_type};
 ghost use Rattle.hl_meaning.specs.Views.{plain_variable};
-ghost use Rattle.hl_source.specs.SourceLane.{components, coordinates_of, dispatch_thread, flat_index, input_words, inputs, semantic_components};
+ghost use Rattle.hl_source.specs.SourceLane.{input_words, inputs, semantic_components};
+ghost use Rattle.lane_core.specs.Inputs.{components, coordinates_of, dispatch_thread, flat_index};
 ghost use Rattle.lane_core.specs.Words.{wrapped};
 ghost use Rattle.hl_interpreter.specs.Runs.{lane_of};
 

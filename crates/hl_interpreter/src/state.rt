@@ -1,7 +1,8 @@
 //! What a lane keeps while a function runs, and the events that it asks. A function with errors also gives want of
 //! memory where memory is refused.
 
-ghost use Rattle.hl_source.specs.State.{after, asks, asks_word, goes_with, reply_words};
+ghost use Rattle.hl_source.specs.State.{after, asks, asks_word, goes_with};
+ghost use Rattle.lane_core.specs.Replies.{reply_words};
 ghost use Rattle.hl_interpreter.specs.Runs.{Gives, Meets, state_of};
 
 use crate::run::{Run, Stop};

@@ -31,6 +31,13 @@ pub(crate) fn stopped_words(structs: &StructDefs, ty: &HlType) -> u64
     }
 }
 
+/// The words of a type, which stop at 4294967296: no word of 32 bits holds that many.
+pub fn stopped_words_of(program: &Program, ty: &HlType) -> u64
+    ensures { result ≡ stopped (words_of (plain_structs program.now.structs) (plain_ty ty.now)) }
+{
+    stopped_words(&program.structs, ty)
+}
+
 /// The words of a type.
 pub fn words_of(program: &Program, ty: &HlType) -> u32
     requires { words_of (plain_program program.now).structs (plain_ty ty.now) ≤ most_words }

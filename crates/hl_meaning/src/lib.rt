@@ -17,7 +17,7 @@ mod ty;
 
 pub use expression::{Arg, Args, Expr, Exprs, Form, Location, PathPart, PathParts, Root, Target};
 pub use intrinsic::Signature;
-pub use layout::{offset_of, words_of};
+pub use layout::{offset_of, stopped_words_of, words_of};
 pub use program::{
     Constant, Constants, Copying, FunctionDef, FunctionDefs, Member, Members, Parameter,
     Parameters, Program, Resource, Resources, Semantic, StructDef, StructDefs, Variable, Variables,

@@ -11,13 +11,16 @@ use Rattle.hl_meaning.specs.declared.ty.Kind.{Kind}
 use Rattle.hl_meaning.specs.Types.{Ty}
 use Rattle.lane_core.specs.Words.{first_bit_low, holds, truth, wrapped, wrapping_sub}
 use Rattle.hl_source.specs.Operations.{by_sign, component_kind, less, map_2, map_3, word_as}
-use Rattle.hl_source.specs.State.{Context, Progress, State, after, asks, asks_word, each, goes_with, no_value, reply_words}
+use Rattle.hl_source.specs.State.{Context, Progress, State, after, asks, asks_word, each, goes_with, no_value}
+use Rattle.lane_core.specs.Replies.{reply_words}
 
 -- words of a kind
 
+-- the lesser of two words, as numbers of their kind
 abbrev pub lesser : Kind → ℕ → ℕ → ℕ
 lesser kind a b = if less kind b a then b else a
 
+-- the greater of two words, as numbers of their kind
 abbrev pub greater : Kind → ℕ → ℕ → ℕ
 greater kind a b = if less kind a b then b else a
 

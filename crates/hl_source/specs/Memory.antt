@@ -16,7 +16,8 @@ use Rattle.hl_meaning.specs.Layout.{kinds_of, words_of}
 use Rattle.hl_meaning.specs.Places.{variable_type}
 use Rattle.lane_core.specs.Words.{wrapping_add, wrapping_mul}
 use Rattle.hl_source.specs.Operations.{map_2, picked, word_as}
-use Rattle.hl_source.specs.State.{Context, Progress, State, after, asks, asks_word, each, faults, gives, goes_with, no_value, reply_words, variable_words, with_variable}
+use Rattle.hl_source.specs.State.{Context, Progress, State, after, asks, asks_word, each, faults, gives, goes_with, no_value, variable_words, with_variable}
+use Rattle.lane_core.specs.Replies.{reply_words}
 use Rattle.hl_source.specs.Offsets.{Holder, Reached, in_constant, in_element, in_shared, in_variable, place_of}
 
 -- the words of a constant, and how many a groupshared variable has; no well-formed program names one that isn't there

@@ -67,6 +67,7 @@ pub record BinaryOperator : Type 0 where
   pub mark : ℕ
   pub compute : Kind → ℕ → ℕ → Result ℕ LaneFault
 
+-- an operator, from its mark and what it computes of two words
 abbrev pub operator : ℕ → (Kind → ℕ → ℕ → Result ℕ LaneFault) → BinaryOperator
 operator mark compute = record { mark = mark; compute = compute }
 

@@ -1,5 +1,5 @@
 -- What a lane of a program does: the meaning by which everything that is made of the program is judged.
-use Rattle.std.specs.Prelude.{ℕ, ◌+◌, ◌*◌, List, [], ◌∷◌, ◌++◌, map, drop, take, length, slice_get, slice_index, unwrap_or, Option, Some, None}
+use Rattle.std.specs.Prelude.{ℕ, List, [], ◌∷◌, ◌++◌, map, drop, take, length, slice_get, unwrap_or, Option, Some, None}
 use Rattle.lane_core.specs.declared.event.Asked.TheVariants.{Ended}
 use Rattle.lane_core.specs.Lane.{Coordinates, Exchange, Lane, LaneMeaning, Run, first_exchange, standing}
 use Rattle.hl_meaning.specs.declared.program.Parameter.{Parameter}
@@ -11,6 +11,7 @@ use Rattle.hl_meaning.specs.Places.{variable_type}
 use Rattle.hl_meaning.specs.Slots.{slots_of}
 use Rattle.hl_meaning.specs.WellFormed.{scope_of}
 use Rattle.lane_core.specs.Words.{wrapped}
+use Rattle.lane_core.specs.Inputs.{components, coordinates_of, dispatch_thread, flat_index}
 use Rattle.hl_source.specs.Expressions.{no_callee}
 use Rattle.hl_source.specs.State.{Callee, Context, Progress, State, after, ends_at, goes_with}
 use Rattle.hl_source.specs.Memory.{zeros_of}
@@ -53,25 +54,6 @@ callees_after p lane n earlier (f ∷ functions) =
     callees_after p lane n (earlier ++ callee_of (context_of p lane earlier f) n f ∷ []) functions
 
 -- the inputs of the entry (HLSL, "Semantics")
-
-abbrev pub components : Coordinates → List ℕ
-components place = place.x ∷ place.y ∷ place.z ∷ []
-
--- three numbers as coordinates, as the threads of a group in each direction
-abbrev pub coordinates_of : List ℕ → Coordinates
-coordinates_of numbers = record { x = slice_index numbers 0; y = slice_index numbers 1; z = slice_index numbers 2 }
-
--- a thread's place in the whole dispatch: its group times the threads of a group, and its place in the group
-abbrev pub dispatch_thread : (threads group thread : Coordinates) → Coordinates
-dispatch_thread threads group thread = record {
-  x = group.x * threads.x + thread.x;
-  y = group.y * threads.y + thread.y;
-  z = group.z * threads.z + thread.z;
-}
-
--- a thread's number in its group
-abbrev pub flat_index : (threads thread : Coordinates) → ℕ
-flat_index threads thread = thread.x + (thread.y * threads.x + thread.z * threads.x * threads.y)
 
 -- SV_DispatchThreadID, SV_GroupID, SV_GroupThreadID and SV_GroupIndex; each parameter of a well-formed entry has one
 abbrev pub semantic_components : (threads : Coordinates) → Lane → Option Semantic → List ℕ

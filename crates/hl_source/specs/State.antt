@@ -1,6 +1,5 @@
 -- What a lane keeps while a function runs, and how a part of a run goes on or ends.
-use Rattle.std.specs.Prelude.{ℕ, List, [], ◌∷◌, ◌++◌, map, slice_get, slice_index, slice_set, unwrap_or, Result, Ok, Err}
-use Rattle.std.specs.List.{range_with_len}
+use Rattle.std.specs.Prelude.{ℕ, List, [], ◌∷◌, ◌++◌, slice_get, slice_set, unwrap_or, Result, Ok, Err}
 use Rattle.lane_core.specs.declared.event.Event.{Event}
 use Rattle.lane_core.specs.declared.event.Reply.{Reply}
 use Rattle.lane_core.specs.declared.event.LaneFault.{LaneFault}
@@ -8,7 +7,7 @@ use Rattle.lane_core.specs.declared.event.Slot.{Slot}
 use Rattle.lane_core.specs.declared.event.Asked.TheVariants.{Fault, Goes}
 use Rattle.lane_core.specs.Lane.{Exchange, Lane, Run, ask, standing}
 use Rattle.hl_meaning.specs.Places.{Scope}
-use Rattle.lane_core.specs.Words.{wrapped}
+use Rattle.lane_core.specs.Replies.{reply_word}
 
 -- the words of each variable of the function that runs, and what was asked so far
 pub record State : Type 0 where
@@ -63,14 +62,6 @@ gives (Err fault) s = faults fault s
 -- an event: the run goes on with its reply, and ends at the event where there is none yet
 abbrev pub asks : Event → State → Progress Reply
 asks event s = ask ends_at event s.exchange (λ reply exchange. goes_with reply (record s { exchange = exchange }))
-
--- the low 32 bits of a word of a reply, and 0 where the reply has none
-abbrev pub reply_word : Reply → ℕ → ℕ
-reply_word reply number = wrapped (slice_index reply.words number)
-
--- the first words of a reply
-abbrev pub reply_words : (count : ℕ) → Reply → List ℕ
-reply_words count reply = map (reply_word reply) (range_with_len 0 count)
 
 -- an event whose reply is one word
 abbrev pub asks_word : Event → State → Progress ℕ

@@ -1,11 +1,7 @@
 //! Lanes: what a lane of a dispatch asks of memory and of its neighbours, and how a run of it ends.
 #![tactic(auto)]
 
-pub mod configuration;
 pub mod event;
 pub mod laws;
 
-pub use configuration::{
-    Buffer, Buffers, Config, History, LaneHistory, Seat, Seats, SharedStart, SharedVariables, World,
-};
 pub use event::{Asked, AtomicKind, Cell, Event, Item, LaneFault, Reply, RunFault, Slot, WaveKind};

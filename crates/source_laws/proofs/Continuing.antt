@@ -10,7 +10,8 @@ use Rattle.lane_core.specs.declared.event.Reply.{Reply}
 use Rattle.lane_core.specs.Lane.{Exchange, Run, standing}
 use Rattle.lane_core.specs.SameLane.{IsPrefix}
 use Rattle.lane_core.proofs.Follows.{prefix_refl, prefix_trans}
-use Rattle.hl_source.specs.State.{Progress, State, after, alone, asks, asks_word, each, ends_at, faults, first_then, gives, goes_with, joined, out_of_turns, reply_word}
+use Rattle.hl_source.specs.State.{Progress, State, after, alone, asks, asks_word, each, ends_at, faults, first_then, gives, goes_with, joined, out_of_turns}
+use Rattle.lane_core.specs.Replies.{reply_word}
 use Rattle.hl_source.specs.Memory.{within, word_of}
 use Rattle.source_laws.specs.Laws.{Extends}
 use Rattle.source_laws.proofs.Extending.{extends_on}

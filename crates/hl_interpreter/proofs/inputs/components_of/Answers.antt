@@ -1,7 +1,8 @@
 use Rattle.std.proofs.Common.{◌∙◌, ◌∷◌, [], Some, ap, map, sym}
 use Rattle.std.proofs.lemmas.Result.{IfOk-weaker}
 use Rattle.lane_core.specs.Words.{wrapped}
-use Rattle.hl_source.specs.SourceLane.{coordinates_of, semantic_components}
+use Rattle.hl_source.specs.SourceLane.{semantic_components}
+use Rattle.lane_core.specs.Inputs.{coordinates_of}
 use Rattle.hl_interpreter.specs.Runs.{lane_of}
 use Rattle.hl_interpreter.proofs.inputs.components_of.Goals as goal
 

@@ -3,7 +3,8 @@ use Rattle.lane_core.specs.declared.event.Event.TheVariants.{Wave as WaveEvent}
 use Rattle.lane_core.specs.Words.{truth}
 use Rattle.hl_meaning.specs.Views.{plain_ty}
 use Rattle.hl_source.specs.Intrinsics.{wave_words, worked}
-use Rattle.hl_source.specs.State.{after, asks, goes_with, reply_words}
+use Rattle.hl_source.specs.State.{after, asks, goes_with}
+use Rattle.lane_core.specs.Replies.{reply_words}
 use Rattle.hl_interpreter.specs.HeldWorks.{plain_one, plain_wave, plain_work}
 use Rattle.hl_interpreter.specs.Runs.{run_context, state_of}
 use Rattle.hl_interpreter.proofs.Exits.{memory-exit}

@@ -1,7 +1,7 @@
 //! A dispatch with its buffers, and the state of the memory that its lanes share.
 
-use crate::event::{Event, Reply, Slot};
 use base_core::{Sequence, Words};
+use lane_core::{Event, Reply, Slot};
 
 /// Where a lane sits: its wave's number, and its lane index in that wave.
 #[derive(Clone, Copy, Debug, PartialEq, Eq)]

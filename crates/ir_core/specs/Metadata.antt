@@ -1,6 +1,7 @@
 -- The metadata of a DXIL module: what it says of resources and threads, and which metadata a compute
 -- shader has (DXIL.rst, "Metadata" of the shader, of resources and of entry points).
-use Rattle.std.specs.Prelude.{◌≡◌, ℕ, ◌+◌, List, [], ◌∷◌, ◌++◌, map, filter, Bool, ◌==◌, if◌then◌else◌, Option, Some, None, IsSome, codes, All, Contains}
+use Rattle.std.specs.Prelude.{◌≡◌, ℕ, ◌+◌, ◌-◌, List, [], ◌∷◌, ◌++◌, map, length, replicate, Bool, ◌==◌, if◌then◌else◌, Option, Some, None, IsSome, codes, All, Contains}
+use Rattle.std.specs.List.{filter, flat_map}
 use Rattle.lane_core.specs.Lane.{Coordinates}
 use Rattle.ir_core.specs.declared.module.Function.{Function}
 use Rattle.ir_core.specs.declared.module.Module.{Module}
@@ -8,12 +9,37 @@ use Rattle.ir_core.specs.MetadataTree.{Tree, a_text, a_number, an_undef_pointer,
 use Rattle.ir_core.specs.Values.{function_at}
 use Rattle.ir_core.specs.Waves.{uses_waves}
 
--- the classes of buffers: read-only ones (SRV) and writable ones (UAV)
-abbrev pub read_only : ℕ
-read_only = 0
+-- a part that is an integer
+abbrev pub integer : (width number : ℕ) → Option Tree
+integer width number = Some (a_number width number)
 
-abbrev pub writable : ℕ
-writable = 1
+abbrev pub i32 : ℕ → Option Tree
+i32 n = integer 32 n
+
+abbrev pub i1 : ℕ → Option Tree
+i1 n = integer 1 n
+
+-- A class of resources: its number, which is its place in the node of all resources, and what the node of one of its
+-- resources has between the kind and the tags.
+pub record Class : Type 0 where
+  pub number : ℕ
+  pub own_parts : List (Option Tree)
+
+-- read-only buffers (SRV), which have a sample count, and writable ones (UAV), which have three flags: globally
+-- coherent, with a counter, rasterizer ordered
+abbrev pub read_only : Class
+read_only = record { number = 0; own_parts = i32 0 ∷ [] }
+
+abbrev pub writable : Class
+writable = record { number = 1; own_parts = i1 0 ∷ i1 0 ∷ i1 0 ∷ [] }
+
+-- the classes that a compute kernel has, in order of their numbers
+abbrev pub classes : List Class
+classes = read_only ∷ writable ∷ []
+
+-- the classes that the node of all resources has a part for: constant buffers and samplers too
+abbrev pub dxil_classes : ℕ
+dxil_classes = 4
 
 -- the kinds of buffers: raw and structured
 abbrev pub raw_kind : ℕ
@@ -37,14 +63,18 @@ pub record Resource : Type 0 where
 abbrev pub stride_of : ℕ → Tree → ℕ
 stride_of kind tags = if kind == raw_kind then 1 else number (child tags 1)
 
+-- the parts that the nodes of all resources begin with: number, global, name, space, register, size and kind
+abbrev pub common_parts : ℕ
+common_parts = 7
+
 -- where the tags of a resource stand in its node
-abbrev pub tags_place : ℕ → ℕ
-tags_place class = if class == read_only then 8 else 10
+abbrev pub tags_place : Class → ℕ
+tags_place class = common_parts + length class.own_parts
 
 -- the resource that a node says
-abbrev pub resource_of : ℕ → Tree → Resource
+abbrev pub resource_of : Class → Tree → Resource
 resource_of class tree = record {
-  class = class;
+  class = class.number;
   id = number (child tree 0);
   space = number (child tree 3);
   register = number (child tree 4);
@@ -57,11 +87,13 @@ abbrev pub first_tree : Option (List Tree) → Tree
 first_tree (Some (tree ∷ trees)) = tree
 first_tree _ = another
 
--- the resources in order: the read-only ones, then the writable ones
+-- the resources of a class, which the node of all resources says
+abbrev pub class_resources : Tree → Class → List Resource
+class_resources tree class = map (resource_of class) (trees_among (parts (child tree class.number)))
+
+-- the resources in order of their classes
 abbrev pub resources_of : Module → List Resource
-resources_of m =
-    let tree = first_tree (named_trees m (codes "dx.resources")) in
-    map (resource_of read_only) (trees_among (parts (child tree read_only))) ++ map (resource_of writable) (trees_among (parts (child tree writable)))
+resources_of m = flat_map (class_resources (first_tree (named_trees m (codes "dx.resources")))) classes
 
 -- the property with a tag among pairs of a tag and a property
 abbrev pub property : ℕ → Children → Tree
@@ -82,16 +114,6 @@ threads_of m =
     let threads = property threads_tag (parts (child entry 4)) in
     record { x = number (child threads 0); y = number (child threads 1); z = number (child threads 2) }
 
--- a part that is an integer
-abbrev pub integer : (width number : ℕ) → Option Tree
-integer width number = Some (a_number width number)
-
-abbrev pub i32 : ℕ → Option Tree
-i32 n = integer 32 n
-
-abbrev pub i1 : ℕ → Option Tree
-i1 n = integer 1 n
-
 -- a resource with the name that it is declared by
 pub record NamedResource : Type 0 where
   pub name : List ℕ
@@ -101,30 +123,27 @@ pub record NamedResource : Type 0 where
 abbrev pub tags_part : Resource → Option Tree
 tags_part r = if r.kind == raw_kind then None else Some (node (i32 1 ∷ i32 r.stride ∷ []))
 
--- what follows the kind in a resource's node
-abbrev pub class_parts : Resource → List (Option Tree)
-class_parts r =
-    if r.class == read_only then i32 0 ∷ tags_part r ∷ [] else i1 0 ∷ i1 0 ∷ i1 0 ∷ tags_part r ∷ []
-
-abbrev pub resource_node : NamedResource → Tree
-resource_node named =
+-- the node of a resource of a class
+abbrev pub resource_node : Class → NamedResource → Tree
+resource_node class named =
     let r = named.resource in
-    node (i32 r.id ∷ Some an_undef_pointer ∷ Some (a_text named.name) ∷ i32 r.space ∷ i32 r.register ∷ i32 r.size ∷ i32 r.kind ∷ class_parts r)
+    node (i32 r.id ∷ Some an_undef_pointer ∷ Some (a_text named.name) ∷ i32 r.space ∷ i32 r.register ∷ i32 r.size ∷ i32 r.kind ∷ class.own_parts ++ tags_part r ∷ [])
 
 -- null, or a node of trees
 abbrev pub list_part : List Tree → Option Tree
 list_part [] = None
 list_part (tree ∷ trees) = Some (node (map Some (tree ∷ trees)))
 
-abbrev pub class_part : ℕ → List NamedResource → Option Tree
-class_part class resources =
-    list_part (map resource_node (filter (λ named. named.resource.class == class) resources))
+-- the resources of a class
+abbrev pub class_part : List NamedResource → Class → Option Tree
+class_part resources class =
+    list_part (map (resource_node class) (filter (λ named. named.resource.class == class.number) resources))
 
--- the node of all resources, null without any
+-- the node of all resources, null without any: a part for each class
 abbrev pub resources_part : List NamedResource → Option Tree
 resources_part [] = None
 resources_part (r ∷ rs) =
-    Some (node (class_part read_only (r ∷ rs) ∷ class_part writable (r ∷ rs) ∷ None ∷ None ∷ []))
+    Some (node (map (class_part (r ∷ rs)) classes ++ replicate (dxil_classes - length classes) None))
 
 -- the nodes of `dx.resources`, which is there only where a resource is declared
 abbrev pub resources_nodes : Option Tree → Option (List Tree)

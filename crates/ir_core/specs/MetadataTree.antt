@@ -1,5 +1,5 @@
 -- Metadata as trees: what the numbers of a module's metadata name (LLVM Language Reference, "Metadata").
-use Rattle.std.specs.Prelude.{ℕ, zero, suc, List, [], ◌∷◌, map, find, Bool, false, ◌==◌, if◌then◌else◌, Option, Some, None, option_map, slice_get, bytes_eq}
+use Rattle.std.specs.Prelude.{ℕ, zero, suc, List, [], ◌∷◌, map, find, Bool, false, if◌then◌else◌, Option, Some, None, option_map, slice_get, bytes_eq}
 use Rattle.ir_core.specs.declared.module.Ty.{Ty}
 use Rattle.ir_core.specs.declared.module.Ty.TheVariants.{Int, Pointer}
 use Rattle.ir_core.specs.declared.module.ConstValue.{ConstValue}
@@ -7,7 +7,7 @@ use Rattle.ir_core.specs.declared.module.ConstValue.TheVariants as constant
 use Rattle.ir_core.specs.declared.module.Meta.{Meta}
 use Rattle.ir_core.specs.declared.module.Meta.TheVariants.{Chars, Value, Node}
 use Rattle.ir_core.specs.declared.module.Module.{Module}
-use Rattle.ir_core.specs.Values.{Value as DefinedValue, ty_eq, low_bits, constant_value, function_value, module_values}
+use Rattle.ir_core.specs.Values.{Value as DefinedValue, ty_eq, same_type, low_bits, constant_value, function_value, module_values}
 
 mutual
   -- a text, an integer of a width, an undef pointer, a function by its value number, a node, or
@@ -46,10 +46,10 @@ abbrev pub is_type_of_function : Option Ty → ℕ → Bool
 is_type_of_function None ty = false
 is_type_of_function (Some entry) ty = ty_eq entry (Pointer ty 0)
 
--- the tree of a value, which the metadata names with its type
+-- the tree of a value, which the metadata names with its type: one whose entry equals that of the value's own
 abbrev pub value_tree : Module → (ty value : ℕ) → Option DefinedValue → Tree
 value_tree m ty value (Some (constant_value c)) =
-    if c.ty == ty then constant_tree (slice_get m.types ty) c.value else another
+    if same_type m.types c.ty ty then constant_tree (slice_get m.types ty) c.value else another
 value_tree m ty value (Some (function_value f)) =
     if is_type_of_function (slice_get m.types ty) f.ty then a_function value else another
 value_tree m ty value _ = another

@@ -38,6 +38,15 @@ ty_eq (Struct n as') (Struct k bs) = name_eq n k && pointwise nat_eq as' bs
 ty_eq (FunctionType a as') (FunctionType b bs) = nat_eq a b && pointwise nat_eq as' bs
 ty_eq _ _ = false
 
+-- whether there are two entries, and they are equal
+abbrev pub same_entry : Option Ty → Option Ty → Bool
+same_entry (Some a) (Some b) = ty_eq a b
+same_entry _ _ = false
+
+-- whether two numbers name equal entries of the type table
+abbrev pub same_type : List Ty → ℕ → ℕ → Bool
+same_type types a b = same_entry (slice_get types a) (slice_get types b)
+
 -- the least number of an entry in the type table
 abbrev pub number_of : List Ty → Ty → Option ℕ
 number_of types ty = position_from (ty_eq ty) 0 types

@@ -1,7 +1,8 @@
 //! Instructions, basic blocks and bodies (LLVM Language Reference, "Instruction Reference").
 //!
 //! Numbers in an instruction are value, type or block numbers. Values are numbered: globals,
-//! functions, module constants, then in a body its constants and its instructions that have a value.
+//! functions, module constants, then in a body the function's parameters, the body's constants and
+//! its instructions that have a value.
 
 use crate::module::Consts;
 use base_core::Sequence;

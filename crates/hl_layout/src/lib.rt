@@ -2,8 +2,6 @@
 #![tactic(auto)]
 
 mod kinds;
-#[cfg(test)]
-mod tests;
 mod words;
 
 pub use kinds::{Kinds, kinds_in, struct_kinds};

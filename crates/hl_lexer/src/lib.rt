@@ -11,8 +11,6 @@ mod number;
 mod reader;
 mod space;
 mod terminal;
-#[cfg(test)]
-mod tests;
 mod token;
 mod word;
 

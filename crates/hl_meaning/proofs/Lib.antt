@@ -7,5 +7,4 @@ pub mod KnownSums
 pub mod WordSums
 pub mod ProgramSums
 pub mod TypeLemmas
-pub mod EmptyProgram
 pub mod LayoutForms

@@ -10,8 +10,6 @@ mod size;
 mod statement;
 mod statement_counting;
 mod sums;
-#[cfg(test)]
-mod tests;
 mod totals;
 mod ty;
 

@@ -6,8 +6,6 @@ mod choice;
 mod choosing;
 mod conversion;
 pub mod laws;
-#[cfg(test)]
-mod tests;
 
 pub use choice::{Candidate, ChoiceFault, Param, Params};
 pub use choosing::choose;

@@ -1,8 +1,8 @@
 use Rattle.std.proofs.Common.{◌∙◌, ◌++◌, ◌∷◌, [], ap}
 use Rattle.hl_meaning.specs.declared.ty.HlType.TheVariants.{Void}
 use Rattle.hl_meaning.specs.declared.program.FunctionDef.{FunctionDef}
-use Rattle.hl_meaning.proofs.EmptyProgram.{empty_function-held, empty_program-held}
-use Rattle.hl_meaning.proofs.tests.empty_program.Goals as goal
+use Rattle.meaning_tests.proofs.EmptyProgram.{empty_function-held, empty_program-held}
+use Rattle.meaning_tests.proofs.sizes.empty_program.Goals as goal
 
 pub invariant_of-result : goal.invariant_of-result
 invariant_of-result c =

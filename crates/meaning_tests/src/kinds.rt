@@ -1,7 +1,7 @@
 //! Kinds that are known by hand.
 
-use crate::{kinds_in, struct_kinds};
 use base_core::{NoMemory, Sequence};
+use hl_layout::{kinds_in, struct_kinds};
 use hl_meaning::{HlType, Kind, Member, StructDef};
 use sqlite_items::Boxed;
 use std::alloc::Global;

@@ -2,8 +2,8 @@
 
 ghost use Rattle.std.specs.Prelude.{◌^◌, ◌<◌, length};
 
-use crate::{LexFault, Terminal, TokenKind, is_name, laws, lex};
 use base_core::Place;
+use hl_lexer::{LexFault, Terminal, TokenKind, is_name, laws, lex};
 use std::test::Fail;
 
 const WORDS: &[u8] = b"void bool int uint bool2 bool3 bool4 int2 int3 int4 uint2 uint3 uint4 \

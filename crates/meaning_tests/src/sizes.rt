@@ -1,7 +1,7 @@
 //! Sizes that are known by hand.
 
-use crate::{FunctionDef, HlType, Program, sizes};
 use base_core::{NoMemory, Sequence};
+use hl_meaning::{FunctionDef, HlType, Program, sizes};
 use sqlite_items::Items;
 use std::alloc::Global;
 use std::test::Fail;

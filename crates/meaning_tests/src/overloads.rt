@@ -1,8 +1,8 @@
 //! Costs and choices that are known by hand.
 
-use crate::{Candidate, ChoiceFault, Param, choose, cost};
 use base_core::Sequence;
 use hl_meaning::{Copying, HlType, Kind};
+use hl_overload::{Candidate, ChoiceFault, Param, choose, cost};
 use sqlite_items::Boxed;
 use std::test::Fail;
 

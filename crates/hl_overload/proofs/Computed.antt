@@ -1,5 +1,5 @@
 -- The answer that is computed is the one that the relation says.
-use Rattle.std.proofs.Common.{◌≡◌, sym, ap, subst, ℕ, suc, List, [], ◌∷◌, ◌++◌, length, Option, None, Some, append_assoc, arith}
+use Rattle.std.proofs.Common.{◌≡◌, sym, subst, ℕ, suc, List, [], ◌∷◌, ◌++◌, length, Option, None, Some, append_assoc, arith}
 use Rattle.std.proofs.lemmas.List.{append-nil, length_push}
 use Rattle.std.proofs.lemmas.Option.{none-some}
 use Rattle.hl_meaning.specs.Types.{Ty}

@@ -1,7 +1,0 @@
-use Rattle.std.proofs.Common.{◌==◌, rules, tests}
-use Rattle.std.proofs.lemmas.Iterator.{YieldsList-from_slice}
-use Rattle.std.proofs.lemmas.Iterator.Search.{any_from_yields_List}
-use Rattle.hl_interpreter.proofs.slots.is_among.Goals as goal
-
-pub returns : goal.returns
-returns c = any_from_yields_List (λ other. other == c.args.number) _ _ _ c.any.ensures.ran (YieldsList-from_slice c.args.taken.now cc) (λ x b q k. search (rules, tests))

@@ -22,7 +22,7 @@ const CHUNK_BITS: u32 = 6;
 const MOST_SHORT_WIDTH: u32 = 39;
 
 /// The head of a record that was read: all before its values.
-#[derive(Clone, Copy, Debug)]
+#[derive(Clone, Copy, Drop)]
 struct Head {
     code: u32,
     /// How many values follow.
@@ -32,7 +32,7 @@ struct Head {
 }
 
 /// A record of few values that was read.
-#[derive(Clone, Copy, Debug)]
+#[derive(Clone, Copy, Drop)]
 pub(crate) struct FewRead {
     pub(crate) code: u32,
     /// How many values there are.

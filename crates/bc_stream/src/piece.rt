@@ -39,7 +39,7 @@ const MOST_WIDTH: u64 = 64;
 const MOST_LEVELS: u32 = 16;
 
 /// What is known of the innermost open block, or of what stands outside all blocks.
-#[derive(Clone, Copy, Debug)]
+#[derive(Clone, Copy, Drop)]
 pub(crate) struct Scope {
     /// How many blocks are open.
     pub(crate) levels: u32,
@@ -50,7 +50,7 @@ pub(crate) struct Scope {
 }
 
 /// A piece that has nothing against it, with the place behind it.
-#[derive(Debug, Drop)]
+#[derive(Drop)]
 pub(crate) enum Piece {
     /// The end of a block.
     Leave {
@@ -71,7 +71,7 @@ pub(crate) enum Piece {
 }
 
 /// The head of a block that was read.
-#[derive(Clone, Copy, Debug)]
+#[derive(Clone, Copy, Drop)]
 struct HeadRead {
     /// The block's id, or none where it is above 64 bits.
     id: Option<u64>,

@@ -39,7 +39,7 @@ const OUTSIDE: Scope = Scope {
 };
 
 /// The body of a block that was read, with the place behind its end.
-#[derive(Debug, Drop)]
+#[derive(Drop)]
 struct Body {
     parts: Parts,
     to: usize,

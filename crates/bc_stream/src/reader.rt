@@ -18,7 +18,7 @@ const WINDOW_BYTES: usize = 8;
 const LARGE: u128 = 1 << 64;
 
 /// A number of a variable width that was read.
-#[derive(Clone, Copy, Debug)]
+#[derive(Clone, Copy, Drop)]
 pub(crate) struct Number {
     /// The number, or none where it is above 64 bits.
     pub(crate) value: Option<u64>,
@@ -27,7 +27,7 @@ pub(crate) struct Number {
 }
 
 /// A number of one or two chunks that was read from a window.
-#[derive(Clone, Copy, Debug)]
+#[derive(Clone, Copy, Drop)]
 pub(crate) struct TwoChunks {
     pub(crate) value: u64,
     /// How many bits of the window are before its end.

@@ -15,7 +15,7 @@ const RECORD_UNIT: u32 = 5;
 const LEAST_VALUE_BITS: usize = 6;
 
 /// The values of a record that were read.
-#[derive(Debug, Drop)]
+#[derive(Drop)]
 struct ValuesRead {
     /// The values, or none where one of them is above 64 bits.
     list: Option<Values>,
@@ -24,7 +24,7 @@ struct ValuesRead {
 }
 
 /// A record that was read.
-#[derive(Debug, Drop)]
+#[derive(Drop)]
 pub(crate) struct RecordRead {
     /// The code, or none where it is above 64 bits.
     pub(crate) code: Option<u64>,

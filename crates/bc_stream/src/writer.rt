@@ -18,7 +18,7 @@ const WORD_LIMIT: u64 = 1 << 32;
 const JOINED_UNITS: u32 = 8;
 
 /// The bits that were written, in order. After an error no more is to be written.
-#[derive(Debug, Drop)]
+#[derive(Drop)]
 pub struct BitWriter {
     /// The whole words.
     words: Bytes,

@@ -13,7 +13,7 @@ use base_core::NoMemory;
 
 /// A fault: its kind, the number of its block among all blocks in the order in which they begin, and the number of
 /// the record in that block.
-#[derive(Clone, Copy, Debug, PartialEq, Eq)]
+#[derive(Clone, Copy, Drop)]
 pub struct Fault {
     pub kind: u8,
     pub block: u32,
@@ -65,7 +65,7 @@ pub fn misplaced_kind(id: u32) -> u8
 }
 
 /// Why a walk over blocks stops.
-#[derive(Clone, Copy, Debug, PartialEq, Eq)]
+#[derive(Clone, Copy, Drop)]
 pub enum Stop {
     /// A fault, which is the first.
     Found(Fault),

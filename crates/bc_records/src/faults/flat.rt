@@ -18,7 +18,7 @@ use crate::faults::types::type_kind;
 use bc_stream::{Entry, Part};
 
 /// Which of the blocks that hold records alone.
-#[derive(Clone, Copy, Debug, PartialEq, Eq)]
+#[derive(Clone, Copy, Drop)]
 pub enum Flat {
     Types,
     Constants,

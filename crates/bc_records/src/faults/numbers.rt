@@ -19,7 +19,7 @@ use bc_stream::Part;
 const MOST_VALUES: u64 = 4611686018427387904;
 
 /// The numbers of a body.
-#[derive(Clone, Copy, Debug, PartialEq, Eq)]
+#[derive(Clone, Copy, Drop)]
 pub struct BodyNumbers {
     /// The number of the first instruction's value.
     pub first: u64,

@@ -86,22 +86,3 @@ pub fn constants_parts(alloc: Global, constants: &Consts) -> Result<Parts, NoMem
     }
     Ok(parts)
 }
-
-#[cfg(test)]
-mod tests {
-    use super::*;
-
-    // as LLVM writes i64 constants
-    #[test]
-    fn writes_signed_values(rt: HostRuntime) {
-        for (value, want) in [
-            (0, 0),
-            (5, 10),
-            (-1, 3),
-            (i64::MAX, 18446744073709551614),
-            (i64::MIN, 1),
-        ] {
-            assert_eq!(rt; signed(value), want);
-        }
-    }
-}

@@ -23,8 +23,6 @@ mod progress;
 mod survey;
 mod symbols;
 mod tables;
-#[cfg(test)]
-mod tests;
 mod types;
 
 use base_core::NoMemory;

@@ -10,8 +10,6 @@ mod metadata;
 mod module;
 mod names;
 mod operands;
-#[cfg(test)]
-mod tests;
 mod types;
 
 pub(crate) use module::read_module;

@@ -158,29 +158,3 @@ pub fn to_blocks(alloc: Global, module: &Module) -> Result<BlockList, NoMemory>
     push_outermost(&mut blocks, MODULE_BLOCK, parts)?;
     Ok(blocks)
 }
-
-#[cfg(test)]
-mod tests {
-    use super::*;
-    use base_core::Sequence;
-
-    #[test]
-    fn writes_the_empty_module(rt: HostRuntime) {
-        let alloc = rt.alloc();
-        let module = Module {
-            triple: Sequence::new(alloc),
-            layout: Sequence::new(alloc),
-            types: Sequence::new(alloc),
-            globals: Sequence::new(alloc),
-            functions: Sequence::new(alloc),
-            consts: Sequence::new(alloc),
-            metas: Sequence::new(alloc),
-            named: Sequence::new(alloc),
-        };
-        let count = match to_blocks(alloc, &module) {
-            Ok(blocks) => blocks.len(),
-            Err(_) => 0,
-        };
-        assert_eq!(rt; count, 1);
-    }
-}

@@ -10,8 +10,6 @@ mod piece;
 pub mod read;
 mod reader;
 mod record;
-#[cfg(test)]
-mod tests;
 pub mod values;
 pub mod write;
 mod writer;

@@ -4,8 +4,6 @@
 mod content;
 mod field;
 pub mod laws;
-#[cfg(test)]
-mod tests;
 mod written;
 
 pub use content::{ContainerFault, Unpacked, unpack};

@@ -86,6 +86,3 @@ pub fn validate(module: Module) -> Result<Checked, Invalid>
         Some((rule, spot)) => Err(Invalid::Broken { rule, spot, module }),
     }
 }
-
-#[cfg(test)]
-mod tests;

@@ -3,8 +3,6 @@
 mod body;
 mod constants;
 mod metadata;
-#[cfg(test)]
-mod tests;
 mod types;
 mod words;
 

@@ -1,7 +1,9 @@
 //! Containers of small kernels, by their bytes as the formats give them.
 
 use base_core::Text;
-use dxil_driver::{CompileFault, Options, Target, compile};
+use dx_validate::Checked;
+use dxil_driver::{CompileFault, Options, Target, check, compile};
+use ir_core::{ConstValue, Inst};
 use std::test::Fail;
 
 /// Options with the entry `main`.
@@ -96,5 +98,60 @@ fn other_texts_are_not_built(rt: HostRuntime) -> Result<(), Fail> {
             Some(CompileFault::Unbuilt)
         );
     }
+    Ok(())
+}
+
+/// A kernel whose first store stores the word that is the address of the second.
+const WORD_AND_ADDRESS: &[u8] =
+    b"RWByteAddressBuffer o : register(u0); [numthreads(8,4,2)] void main() { o.Store(0, 4); o.Store(4, 4294967295); }";
+
+/// The module in the container of a kernel.
+fn checked(rt: &HostRuntime, text: &[u8]) -> Result<Checked, Fail> {
+    let container = compile(rt.alloc(), text, &options(rt)?)
+        .ok()
+        .ok_or("no container")?;
+    let checked = check(rt.alloc(), container.as_slice())
+        .ok()
+        .ok_or("no module")?;
+    Ok(checked)
+}
+
+#[test]
+fn two_stores_share_a_word(rt: HostRuntime) -> Result<(), Fail> {
+    let checked = checked(&rt, WORD_AND_ADDRESS)?;
+    let module = checked.module();
+    assert_eq!(rt; module.types.len(), 14);
+    assert_eq!(rt; module.metas.len(), 23);
+    let entry = module.functions.get(0).ok_or("the entry is there")?;
+    let body = entry.body.as_ref().ok_or("the entry has a body")?;
+    assert_eq!(rt; body.consts.len(), 7);
+    let word = body.consts.get(6).copied().ok_or("there are three words")?;
+    assert_eq!(rt; word.value, ConstValue::Int(-1));
+    let block = body.blocks.get(0).ok_or("the body has a block")?;
+    let inst = block.insts.get(2).ok_or("the second store is there")?;
+    match inst {
+        Inst::Call { function, args } => {
+            assert_eq!(rt; *function, 2);
+            assert_eq!(rt;
+                args.as_slice(),
+                [16, 21, 19, 17, 20, 17, 17, 17, 14].as_slice()
+            );
+        }
+        _ => return Err(Fail::from("a store is a call")),
+    }
+    Ok(())
+}
+
+#[test]
+fn an_entry_without_a_buffer_ends(rt: HostRuntime) -> Result<(), Fail> {
+    let checked = checked(&rt, b"[numthreads(8,4,2)] void main() {}")?;
+    let module = checked.module();
+    assert_eq!(rt; module.functions.len(), 1);
+    assert_eq!(rt; module.metas.len(), 16);
+    let entry = module.functions.get(0).ok_or("the entry is there")?;
+    assert_eq!(rt; entry.name.as_slice(), b"main".as_slice());
+    let body = entry.body.as_ref().ok_or("the entry has a body")?;
+    let block = body.blocks.get(0).ok_or("the body has a block")?;
+    assert_eq!(rt; block.insts.len(), 1);
     Ok(())
 }

@@ -3,7 +3,7 @@
 ghost use Rattle.std.specs.Prelude.{◌≡◌, ◌^◌, ◌<◌, [], ◌∷◌, length, IfOk};
 ghost use Rattle.bc_stream.specs.Blocks.{a_block, a_record, contents_of, no_more};
 
-use crate::{
+use bc_stream::{
     BlockList, Part, StreamFault, Values, no_blocks, no_parts, push_entry, push_outermost,
     read_back, read_blocks, write_blocks,
 };

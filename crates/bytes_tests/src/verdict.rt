@@ -1,6 +1,6 @@
 //! A module without tables: the least broken rule, and the module back.
 
-use super::{Invalid, validate};
+use dx_validate::{Invalid, validate};
 use base_core::Sequence;
 use ir_core::{Module, Spot};
 use std::test::Fail;

@@ -1,6 +1,6 @@
 //! A container from outside, written and read.
 
-use crate::{ContainerFault, PackInfo, pack, unpack};
+use dx_container::{ContainerFault, PackInfo, pack, unpack};
 use std::test::Fail;
 
 /// The smallest bitcode.

@@ -38,8 +38,8 @@ program-kinds s structs more ty e known =
     ∙ kinds_of-front (struct_defs s.structs) more ty
     (below-more (length (known_words s.structs)) (length (struct_defs s.structs)) ty (omega (arith, length-map s.structs words_known, length-map s.structs (struct_def s.structs))) (type_below (length (known_words s.structs)) ty known.is_type))
 
-pub constant-kept : (env : places.Scope) (s : Scope) → IsSound s → s.blocks ≡ [] → FitsNames env s → (ty : Option Ty) (declarator init : Tree) → IsKnownAs s (declarator_type s ty declarator) → IsFree (constant_sites s (declarator_type s ty declarator) declarator init) → IsConstant env.structs (declared_constant s ty declarator init)
-constant-kept env s sound outside fits ty declarator init known free = record {
+pub constant-kept : (env : places.Scope) (s : Scope) → IsSound s → FitsNames env s → (ty : Option Ty) (declarator init : Tree) → IsKnownAs s (declarator_type s ty declarator) → IsFree (constant_sites s (declarator_type s ty declarator) init) → IsConstant env.structs (declared_constant s ty declarator init)
+constant-kept env s sound fits ty declarator init known free = record {
   type = variable-kept env s sound fits ty declarator known;
   words =
       subst (λ o. HoldWords (kinds_of env.structs (unwrap_or o void_type)) (unwrap_or (option_and_then (λ own. init_words s (kinds_of (struct_defs s.structs) own) init) o) [])) (sym known.is)
@@ -49,5 +49,5 @@ constant-kept env s sound outside fits ty declarator init known free = record {
   where
     words : HasWords (kinds_of (struct_defs s.structs) known.type) (init_words s (kinds_of (struct_defs s.structs) known.type) init)
     words =
-        constant-words s sound.known outside (declarator_type s ty declarator) declarator init (kinds_of (struct_defs s.structs) known.type)
+        constant-words s sound.known (declarator_type s ty declarator) init (kinds_of (struct_defs s.structs) known.type)
         (ap (λ o. words_if s.structs o) known.is ∙ known-kinds s known.type sound known.known) free

@@ -1,16 +1,13 @@
--- Constant numbers are words of 32 bits, and those of an initialiser are the same before the constant is declared.
-use Rattle.std.proofs.Common.{◌≡◌, ◌∙◌, refl, sym, ap, subst, arith, ℕ, ◌+◌, ◌-◌, ◌*◌, ◌≤◌, Bool, true, false, if◌then◌else◌, nat_le, List, [], ◌∷◌, ◌++◌, Option, None, Some}
-use Rattle.std.specs.Prelude.{bytes_eq}
+-- Constant numbers are words of 32 bits.
+use Rattle.std.proofs.Common.{◌≡◌, refl, subst, arith, ℕ, ◌+◌, ◌-◌, ◌*◌, ◌≤◌, Bool, true, false, if◌then◌else◌, nat_le, Option, None, Some}
 use Rattle.std.proofs.lemmas.Option.{same_Some}
 use Rattle.hl_lexer.specs.declared.terminal.Terminal.{Terminal}
 use Rattle.hl_lexer.specs.declared.terminal.Terminal.TheVariants as terminals
 use Rattle.hl_lexer.specs.Numbers.{greatest_number}
 use Rattle.hl_parser.specs.Trees.{Tree, Trees, a_binary, a_primary, absent, more_trees, no_trees, present}
-use Rattle.hl_meaning.specs.Types.{Ty}
 use Rattle.hl_rules.specs.Constants.{combined, constant_number, number_of_sort, sum_of, word_number}
-use Rattle.hl_rules.specs.Declarations.{constant_value, with_constant}
 use Rattle.hl_rules.specs.Expressions.{first_number}
-use Rattle.hl_rules.specs.Scopes.{Named, Scope, Sort, VariableInfo, a_buffer_name, a_function_name, a_struct_name, a_variable_name, declared_among, declared_in, sort_at, sort_of, spelled}
+use Rattle.hl_rules.specs.Scopes.{Scope, Sort, VariableInfo, a_buffer_name, a_function_name, a_struct_name, a_variable_name, sort_at, spelled}
 use Rattle.hl_rules.specs.Source.{number_at, terminal_at}
 use Rattle.hl_rules.proofs.Fitting.{IsKnown}
 use Rattle.hl_rules.proofs.Options.{no-more}
@@ -60,39 +57,3 @@ number-fits s known other n e = absurd (cc e)
 pub first-small : (s : Scope) → IsKnown s → (trees : Trees) (n : ℕ) → first_number s trees ≡ Some n → n ≤ greatest_number
 first-small s known no_trees n e = absurd (cc e)
 first-small s known (more_trees first rest) n e = number-fits s known first n e
-
--- ---- behind one more name that is no constant number
-
--- the number of the first sort that is found
-number-push : (names : List Named) (n : Named) (name : List ℕ) → number_of_sort (Some n.sort) ≡ None → number_of_sort (declared_in (names ++ n ∷ []) name) ≡ number_of_sort (declared_in names name)
-number-push [] n name e = on (bytes_eq n.name name) refl
-  where
-    on : (b : Bool) → bytes_eq n.name name ≡ b → number_of_sort (declared_in (n ∷ []) name) ≡ None
-    on true h = rw h e
-    on false h = rw h refl
-number-push (m ∷ names) n name e = on (bytes_eq m.name name) refl (number-push names n name e)
-  where
-    on : (b : Bool) → bytes_eq m.name name ≡ b → number_of_sort (declared_in (names ++ n ∷ []) name) ≡ number_of_sort (declared_in names name) → number_of_sort (declared_in (m ∷ (names ++ n ∷ [])) name) ≡ number_of_sort (declared_in (m ∷ names) name)
-    on true h next = rw h refl
-    on false h next = rw h next
-
--- where no block stands around
-sort-outside : (s : Scope) (name : List ℕ) → s.blocks ≡ [] → sort_of s name ≡ declared_in s.globals name
-sort-outside s name e = ap (λ b. declared_among b name (declared_in s.globals name)) e
-
-module _ (s : Scope) (ty : Option Ty) (declarator init : Tree) (outside : s.blocks ≡ []) (none : constant_value s ty init ≡ None) where
-  word-same : (terminal : Terminal) (index : ℕ) → word_number (with_constant s ty declarator init) terminal index ≡ word_number s terminal index
-  word-same terminals.Name index =
-      ap (λ o. number_of_sort o) (sort-outside (with_constant s ty declarator init) (spelled s index) outside)
-      ∙ (number-push s.globals _ (spelled s index) none
-      ∙ ap (λ o. number_of_sort o) (sym (sort-outside s (spelled s index) outside)))
-  word-same other index = refl
-
-  -- a constant's own name is no constant number in its initialiser, so what is one there is one before it
-  pub number-same : (e : Tree) → constant_number (with_constant s ty declarator init) e ≡ constant_number s e
-  number-same (a_primary at absent absent) = word-same (terminal_at s.tokens at) at
-  number-same (a_primary at (present inner) absent) = number-same inner
-  number-same (a_binary production at left mark right) =
-      ap (λ o. combined (terminal_at s.tokens mark) o (constant_number (with_constant s ty declarator init) right)) (number-same left)
-      ∙ ap (λ o. combined (terminal_at s.tokens mark) (constant_number s left) o) (number-same right)
-  number-same other = refl

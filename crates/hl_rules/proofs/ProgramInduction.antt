@@ -40,15 +40,15 @@ module _ (structs : List StructDef) (resources : List Resource) (shared : List V
 
   constant-there : (s : Scope) (rs : List Resource) (ss : List Variable) (cs : List Constant) (fs : List FunctionDef) → Stands (program_env structs resources shared constants) s rs ss cs fs → (more : List StructDef) → structs ≡ struct_defs s.structs ++ more → (place at : ℕ) (type declarator init : Tree) (behind : List Constant) → IsItem s.tokens (an_item place (a_constant at type declarator init)) → IsFree (item_sites s (a_constant at type declarator init)) → constants ≡ cs ++ declared_constant s (named_type s type) declarator init ∷ behind → IsConstantThere s rs ss cs fs at type declarator init
   constant-there s rs ss cs fs stands more prefix place at type declarator init behind shape free e =
-      let first = named-known s stands.sound type shape.0 (free-left (type_sites s type) (declarator_sites s (named_type s type) declarator ++ (site s (a_global_name (at_of declarator)) ∷ constant_sites s (declarator_type s (named_type s type) declarator) declarator init)) free) in
-      let rest = free-right (type_sites s type) (declarator_sites s (named_type s type) declarator ++ (site s (a_global_name (at_of declarator)) ∷ constant_sites s (declarator_type s (named_type s type) declarator) declarator init)) free in
-      let own = declarator-known s stands.sound (named_type s type) first declarator shape.1 (free-left (declarator_sites s (named_type s type) declarator) (site s (a_global_name (at_of declarator)) ∷ constant_sites s (declarator_type s (named_type s type) declarator) declarator init) rest) in
+      let first = named-known s stands.sound type shape.0 (free-left (type_sites s type) (declarator_sites s (named_type s type) declarator ++ (site s (a_global_name (at_of declarator)) ∷ constant_sites s (declarator_type s (named_type s type) declarator) init)) free) in
+      let rest = free-right (type_sites s type) (declarator_sites s (named_type s type) declarator ++ (site s (a_global_name (at_of declarator)) ∷ constant_sites s (declarator_type s (named_type s type) declarator) init)) free in
+      let own = declarator-known s stands.sound (named_type s type) first declarator shape.1 (free-left (declarator_sites s (named_type s type) declarator) (site s (a_global_name (at_of declarator)) ∷ constant_sites s (declarator_type s (named_type s type) declarator) init) rest) in
       record {
         stands = stands-constant structs resources shared constants s rs ss cs fs stands more prefix (named_type s type) declarator init behind own e;
         kept =
-            constant-kept (program_env structs resources shared constants) s stands.sound stands.outside (record { more = more; prefix = prefix; names = stands.names }) (named_type s type) declarator init own
-            (free-rest (site s (a_global_name (at_of declarator))) (constant_sites s (declarator_type s (named_type s type) declarator) declarator init)
-            (free-right (declarator_sites s (named_type s type) declarator) (site s (a_global_name (at_of declarator)) ∷ constant_sites s (declarator_type s (named_type s type) declarator) declarator init) rest));
+            constant-kept (program_env structs resources shared constants) s stands.sound (record { more = more; prefix = prefix; names = stands.names }) (named_type s type) declarator init own
+            (free-rest (site s (a_global_name (at_of declarator))) (constant_sites s (declarator_type s (named_type s type) declarator) init)
+            (free-right (declarator_sites s (named_type s type) declarator) (site s (a_global_name (at_of declarator)) ∷ constant_sites s (declarator_type s (named_type s type) declarator) init) rest));
       }
 
   -- groupshared variables

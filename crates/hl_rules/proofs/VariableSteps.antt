@@ -1,5 +1,5 @@
 -- Behind groupshared variables and constants what is known stands in the program.
-use Rattle.std.proofs.Common.{◌≡◌, ◌∙◌, refl, sym, ap, subst, ℕ, suc, ◌≤◌, true, false, List, [], ◌∷◌, ◌++◌, Option, None, Some}
+use Rattle.std.proofs.Common.{◌≡◌, ◌∙◌, refl, sym, ap, subst, ℕ, suc, ◌≤◌, Bool, true, false, if◌then◌else◌, List, [], ◌∷◌, ◌++◌, Option, None, Some}
 use Rattle.std.specs.Prelude.{option_map, unwrap_or}
 use Rattle.hl_lexer.specs.Numbers.{greatest_number}
 use Rattle.hl_parser.specs.Trees.{Tree, an_init, at_of, present}
@@ -19,12 +19,15 @@ use Rattle.hl_rules.proofs.ProgramScopes.{Stands, program_env}
 use Rattle.hl_rules.proofs.ProgramSteps.{get-at, length-push}
 use Rattle.hl_rules.proofs.ScopeForms.{FitSort, FitsNames, declared-there, sorts-global, sound-global}
 use Rattle.hl_rules.proofs.StructForms.{IsKnownType, known_words}
-use Rattle.hl_rules.proofs.ConstantWords.{if-there}
 
 -- the number of a constant is a word of 32 bits
 init-fits : (s : Scope) → IsKnown s → (init : Tree) (n : ℕ) → init_number s init ≡ Some n → n ≤ greatest_number
 init-fits s known (an_init at (present value) parts) n e = number-fits s known value n e
 init-fits s known other n e = absurd (cc e)
+
+if-there : (number : Bool) (o : Option ℕ) (n : ℕ) → (if number then o else None) ≡ Some n → o ≡ Some n
+if-there true o n e = e
+if-there false o n e = absurd (cc e)
 
 value-fits : (s : Scope) → IsKnown s → (ty : Option Ty) (init : Tree) (n : ℕ) → constant_value s ty init ≡ Some n → n ≤ greatest_number
 value-fits s known ty init n e = init-fits s known init n (if-there (is_number_type ty) (init_number s init) n e)

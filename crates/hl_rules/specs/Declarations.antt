@@ -1,7 +1,8 @@
 -- What declarations make known (HLSL, "Declarations").
 --
--- A global variable's name is known behind its declarator, so a constant's in its own initialiser, and a local one's behind
--- its declarator and its initialiser. A function's name is known in its own body, and a struct's behind the struct.
+-- A variable's name is known behind its declaration: that of a groupshared variable ends with its declarator, and that of a
+-- constant or of a local variable with its initialiser. A function's name is known in its own body, and a struct's behind the
+-- struct.
 use Rattle.std.specs.Prelude.{ℕ, suc, ◌+◌, not, Bool, true, false, if◌then◌else◌, List, [], ◌∷◌, ◌++◌, length, is_some, Option, None, Some}
 use Rattle.hl_lexer.specs.declared.terminal.Terminal.{Terminal}
 use Rattle.hl_lexer.specs.declared.terminal.Terminal.TheVariants as terminals
@@ -193,12 +194,11 @@ abbrev pub init_number : Scope → Tree → Option ℕ
 init_number s (an_init at (present value) parts) = constant_number s value
 init_number s _ = None
 
--- the constant number that a constant's name is, by what is known before its declaration
+-- the constant number that a constant's name is, by what is known in its initialiser
 abbrev pub constant_value : Scope → Option Ty → (init : Tree) → Option ℕ
 constant_value s ty init = if is_number_type ty then init_number s init else None
 
--- Behind the declarator of a constant, so in its initialiser too. There its name is no constant number: what isn't
--- declared before the initialiser has none.
+-- behind the initialiser of a constant
 abbrev pub with_constant : Scope → Option Ty → (declarator init : Tree) → Scope
 with_constant s ty declarator init =
     record (with_global (named (spelled s (at_of declarator)) (variable (constant_root s.constants) ty true (constant_value s ty init))) s)

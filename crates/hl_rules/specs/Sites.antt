@@ -7,7 +7,7 @@ use Rattle.hl_lexer.specs.Tokens.{Lexeme}
 use Rattle.hl_parser.specs.Trees.{Tree, Trees, Maybe, absent, present, no_trees, more_trees, a_binary, a_block, a_buffer, a_choice, a_constant, a_declarator, a_do, a_for, a_function, a_jump, a_kind, a_local, a_member, a_param, a_postfix, a_primary, a_program, a_result, a_shared, a_start, a_stmt, a_struct, a_type, a_unary, a_while, an_args, an_attribute, an_expr, an_if, an_init, an_item, at_of}
 use Rattle.hl_meaning.specs.Types.{Ty}
 use Rattle.hl_rules.specs.Constants.{declarator_type, named_type}
-use Rattle.hl_rules.specs.Declarations.{after_first, after_item, after_param, after_start, after_statement, at_params, buffer_info, in_body, with_constant, locals_in, member_info, struct_info, with_shared}
+use Rattle.hl_rules.specs.Declarations.{after_first, after_item, after_param, after_start, after_statement, at_params, buffer_info, in_body, locals_in, member_info, struct_info, with_shared}
 use Rattle.hl_rules.specs.Operands.{of_two, operator_type}
 use Rattle.hl_rules.specs.Parts.{Site, a_brace_init, a_call, a_cast, a_condition, a_constant_init, a_constructor, a_conversion, a_declared, a_dot, a_function_attribute, a_global_name, a_length, a_local_name, a_loop_jump, a_member_name, a_method_call, a_register, a_return, a_space, a_statement_attribute, a_type_name, a_use, a_variable, a_whole_function, a_whole_struct, a_written_side, an_element, an_end, an_entry_param, an_index, an_operand, site}
 use Rattle.hl_rules.specs.Scopes.{MemberInfo, Scope, behind, first_scope, is_function, looped, opened, spelled}
@@ -312,10 +312,8 @@ shared_sites ty s (more_trees first rest) =
     declarator_sites s ty first ++ (site s (a_global_name (at_of first)) ∷ shared_sites ty (with_shared ty s first) rest)
 
 -- the initialiser of a constant of a type
-abbrev pub constant_sites : Scope → Option Ty → (declarator init : Tree) → List Site
-constant_sites s ty declarator init =
-    init_sites (with_constant s ty declarator init) ty init
-    ++ site (with_constant s ty declarator init) (a_constant_init init) ∷ []
+abbrev pub constant_sites : Scope → Option Ty → (init : Tree) → List Site
+constant_sites s ty init = init_sites s ty init ++ site s (a_constant_init init) ∷ []
 
 abbrev pub item_sites : Scope → Tree → List Site
 item_sites s (an_item at item) = item_sites s item
@@ -329,7 +327,7 @@ item_sites s (a_constant at type declarator init) =
     type_sites s type
     ++ (declarator_sites s (named_type s type) declarator
     ++ (site s (a_global_name (at_of declarator))
-    ∷ constant_sites s (declarator_type s (named_type s type) declarator) declarator init))
+    ∷ constant_sites s (declarator_type s (named_type s type) declarator) init))
 item_sites s (a_function at attributes result name params block) =
     function_attributes_sites s false attributes
     ++ (result_sites s result

@@ -10,10 +10,10 @@ use Rattle.hl_rules.specs.DeclarationRules.{is_more}
 use Rattle.hl_rules.specs.Declarations.{buffer_info, constant_value, members_info, struct_info, with_constant}
 use Rattle.hl_rules.specs.Elaboration.{declared_constant, init_words, variable_of}
 use Rattle.hl_rules.specs.Found.{breaking, broken_if, gathered}
-use Rattle.hl_rules.specs.Parts.{a_constant_init, a_global_name, a_whole_struct, site}
+use Rattle.hl_rules.specs.Parts.{a_global_name, a_whole_struct, site}
 use Rattle.hl_rules.specs.Rules.{noted}
 use Rattle.hl_rules.specs.Scopes.{Scope, StructInfo}
-use Rattle.hl_rules.specs.Sites.{constant_sites, declarator_sites, element_sites, init_sites, members_sites, register_sites, type_sites}
+use Rattle.hl_rules.specs.Sites.{constant_sites, declarator_sites, element_sites, members_sites, register_sites, type_sites}
 use Rattle.hl_rules.specs.Statements.{struct_defs}
 use Rattle.hl_rules.proofs.Noting.{noted-append, noted-first, noted-whole_struct}
 use Rattle.hl_values.specs.ScopeChanges.{with_constant_named, with_struct_named}
@@ -70,22 +70,21 @@ constant-behind s declarator init at own known number a k n =
     ap (λ x. with_constant_named x known number s) a ∙ (ap (λ x. with_constant_named (at_of declarator) x number s) k ∙
     ap (λ x. with_constant_named (at_of declarator) own x s) n)
 
-pub constant-noted : (s s' : Scope) (type declarator init : Tree) (own : Option Ty) (f0 f1 f2 : Option Broken)
-    → own ≡ declarator_type s (named_type s type) declarator → s' ≡ with_constant s own declarator init
+pub constant-noted : (s : Scope) (type declarator init : Tree) (own : Option Ty) (f0 f1 f2 : Option Broken)
+    → own ≡ declarator_type s (named_type s type) declarator
     → f1 ≡ noted f0 (type_sites s type ++ (declarator_sites s (named_type s type) declarator ++ site s (a_global_name (at_of declarator)) ∷ []))
-    → f2 ≡ noted f1 (init_sites s' own init ++ site s' (a_constant_init init) ∷ [])
+    → f2 ≡ noted f1 (constant_sites s own init)
     → f2 ≡ noted f0 (constant_item_sites s type declarator init)
-constant-noted s s' type declarator init own f0 f1 f2 o e e1 e2 =
+constant-noted s type declarator init own f0 f1 f2 o e1 e2 =
     let ty = declarator_type s (named_type s type) declarator in
     let types = type_sites s type in
     let declared = declarator_sites s (named_type s type) declarator in
     let global = site s (a_global_name (at_of declarator)) ∷ [] in
-    let inner = constant_sites s ty declarator init in
-    e2 ∙ (ap (λ x. noted f1 (init_sites x own init ++ site x (a_constant_init init) ∷ [])) e ∙
-    (ap (λ x. noted f1 (constant_sites s x declarator init)) o ∙
+    let inner = constant_sites s ty init in
+    e2 ∙ (ap (λ x. noted f1 (constant_sites s x init)) o ∙
     (ap (λ f. noted f inner) e1 ∙
     (sym (noted-append f0 (types ++ (declared ++ global)) inner) ∙
-    ap (noted f0) (append_assoc types (declared ++ global) inner ∙ ap (λ l. types ++ l) (append_assoc declared global inner))))))
+    ap (noted f0) (append_assoc types (declared ++ global) inner ∙ ap (λ l. types ++ l) (append_assoc declared global inner)))))
 
 pub declared-noted : (s : Scope) (type declarator : Tree) (named : Option Ty) (at : ℕ) (f0 f1 f2 f3 : Option Broken)
     → f1 ≡ noted f0 (type_sites s type) → named ≡ named_type s type → f2 ≡ noted f1 (declarator_sites s named declarator)

@@ -34,7 +34,7 @@ constant_item_sites s type declarator init =
     type_sites s type
     ++ (declarator_sites s (named_type s type) declarator
     ++ (site s (a_global_name (at_of declarator))
-    ∷ constant_sites s (declarator_type s (named_type s type) declarator) declarator init))
+    ∷ constant_sites s (declarator_type s (named_type s type) declarator) init))
 
 -- ---- threads
 

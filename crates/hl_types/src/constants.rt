@@ -7,9 +7,9 @@ ghost use Rattle.hl_parser.specs.Views.{plain_of};
 ghost use Rattle.hl_rules.specs.Constants.{declarator_type, named_type};
 ghost use Rattle.hl_rules.specs.Declarations.{with_constant};
 ghost use Rattle.hl_rules.specs.Elaboration.{declared_constant};
-ghost use Rattle.hl_rules.specs.Parts.{a_constant_init, a_global_name, site};
+ghost use Rattle.hl_rules.specs.Parts.{a_global_name, site};
 ghost use Rattle.hl_rules.specs.Rules.{noted};
-ghost use Rattle.hl_rules.specs.Sites.{declarator_sites, init_sites, type_sites};
+ghost use Rattle.hl_rules.specs.Sites.{constant_sites, declarator_sites, type_sites};
 ghost use Rattle.hl_types.specs.Items.{constant_item_sites};
 ghost use Rattle.hl_values.specs.ScopeViews.{scope_of};
 ghost use Rattle.hl_values.specs.Views.{plain_type_if};
@@ -46,7 +46,7 @@ fn constant_type(
     Ok(own)
 }
 
-/// The initialiser of a constant of a type, behind its declarator.
+/// The initialiser of a constant of a type, before the constant's name is known.
 fn note_initialiser(
     scope: &Scope,
     ty: &Option<HlType>,
@@ -54,7 +54,7 @@ fn note_initialiser(
     found: &mut Option<Broken>,
     alloc: Global,
 ) -> Result<(), NoMemory>
-    ensures { OnOk result (found.new ≡ noted found.old (init_sites (scope_of scope.now) (plain_type_if ty.now) (plain_of tree.now) ++ site (scope_of scope.now) (a_constant_init (plain_of tree.now)) ∷ [])) }
+    ensures { OnOk result (found.new ≡ noted found.old (constant_sites (scope_of scope.now) (plain_type_if ty.now) (plain_of tree.now))) }
 {
     init(scope, ty, tree, found, alloc)?;
     note_constant_init(scope, tree, found);
@@ -76,6 +76,7 @@ pub(crate) fn constant<'a>(
     ensures found { OnOk result (found.new ≡ noted found.old (constant_item_sites (scope_of scope.old) (plain_of ty.now) (plain_of name.now) (plain_of tree.now))) }
 {
     let own = constant_type(scope, ty, name, found, alloc)?;
+    note_initialiser(scope, &own, tree, found, alloc)?;
     let number = constant_value(scope, &own, tree);
     let words = constant_words(scope, &own, tree, found, alloc)?;
     let at = name.at();
@@ -84,6 +85,5 @@ pub(crate) fn constant<'a>(
     let known = copied_if(&own, alloc)?;
     // The scope holds no words: it knows of a constant what its name says, and how many there are.
     scope.declare_constant(alloc, at, known, number, Sequence::new(alloc))?;
-    note_initialiser(scope, &own, tree, found, alloc)?;
     Ok(())
 }

@@ -296,7 +296,7 @@ fn a_mended_source_breaks_no_rule(rt: HostRuntime) -> Result<(), Fail> {
 }
 
 /// Sources with the line that each is refused with.
-const REFUSED: [(&[u8], &[u8]); 10] = [
+const REFUSED: [(&[u8], &[u8]); 11] = [
     // the first of the rules that are broken, and of several at one token the least
     (b"groupshared int g; groupshared int g;", b"1:36: rule 1\n"),
     (
@@ -304,6 +304,8 @@ const REFUSED: [(&[u8], &[u8]); 10] = [
         b"1:35: rule 19\n",
     ),
     (b"[numthreads(1,1,1)] void main() { x; }", b"1:35: rule 3\n"),
+    // a constant's name is known behind its initialiser
+    (b"static const uint Z = Z;", b"1:23: rule 3\n"),
     // the threads of a group
     (b"[numthreads(1,1,65)] void main() {}", b"1:2: rule 15\n"),
     (b"[numthreads(32,33,1)] void main() {}", b"1:2: rule 15\n"),

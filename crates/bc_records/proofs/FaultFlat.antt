@@ -6,7 +6,7 @@ use Rattle.bc_records.specs.declared.faults.fault.Fault.{Fault}
 use Rattle.bc_records.specs.Entries.{Entry, entry, entries_in, blocks_in, block_count}
 use Rattle.bc_records.specs.FaultSearch.{fault_at, first_fault, first_kind, or_else}
 use Rattle.bc_records.specs.FaultSites.{sites_after}
-use Rattle.bc_records.specs.RecordFaults.{flat_table, misplaced, module_inside}
+use Rattle.bc_records.specs.RecordFaults.{flat_table, module_inside}
 use Rattle.bc_records.specs.RecordKinds.{Known, all_of, has_code, kind_unless, type_kinds, constant_kinds, metadata_kinds, symbol_kinds}
 
 pub second-none : (a b : Option Fault) → or_else a b ≡ None → b ≡ None

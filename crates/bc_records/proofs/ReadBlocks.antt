@@ -1,17 +1,14 @@
 -- A block list, as it is held, that has no fault records the module that it says.
-use Rattle.std.proofs.Common.{◌≡◌, ◌+◌, ◌≤◌, List, [], ◌∷◌, length, refl, ap, sym, ◌∙◌, arith}
-use Rattle.std.specs.Prelude.{Bool, true, false, if◌then◌else◌, All}
-use Rattle.bc_stream.specs.declared.block.Part.{Part, Part-F, out-Part, roll-Part, roll-out-Part}
-use Rattle.bc_stream.specs.declared.block.Part.TheVariants.{Block, Entry as EntryPart, rolls-Block, rolls-Entry}
+use Rattle.std.proofs.Common.{◌≡◌, List, [], ◌∷◌, length, ap, ◌∙◌}
+use Rattle.std.specs.Prelude.{All}
 use Rattle.bc_stream.specs.declared.block.BlockTree.{BlockTree}
-use Rattle.bc_stream.specs.Blocks.{Contents, before_part, parts_contents, contents_of}
-use Rattle.bc_stream.proofs.BlockLemmas.{before_part-Block, before_part-Entry, before_block-is, parts_contents-none, parts_contents-first, contents_of-none, contents_of-first}
-use Rattle.bc_records.specs.Entries.{Entry, entries_in, blocks_in, IsWord}
+use Rattle.bc_stream.specs.Blocks.{contents_of}
+use Rattle.bc_stream.proofs.BlockLemmas.{contents_of-none, contents_of-first}
+use Rattle.bc_records.specs.Entries.{entries_in, IsWord}
 use Rattle.bc_records.specs.FaultSites.{IsFree}
 use Rattle.bc_records.specs.Records.{Recorded}
-use Rattle.bc_records.specs.RecordKinds.{known_of, type_entries, is_type_entry}
 use Rattle.bc_records.specs.RecordFaults.{record_sites}
-use Rattle.bc_records.specs.Read.{inner_of, read_module}
+use Rattle.bc_records.specs.Read.{read_module}
 use Rattle.bc_records.proofs.ReadModule.{free_is_recorded}
 
 -- outside its blocks stand no records

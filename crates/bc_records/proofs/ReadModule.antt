@@ -19,7 +19,7 @@ use Rattle.bc_records.specs.Records.{Recorded}
 use Rattle.bc_records.specs.Ranges.{IsInRange}
 use Rattle.bc_records.specs.RecordKinds.{Known, known_of, code_of, operands_of, is_word, signature_at, has_pointer_to, has_code, has_block, type_entries, constant_kinds, module_value_count, first_of, all_of, function_entries, with_bodies}
 use Rattle.bc_records.specs.RecordFaults.{record_sites, body_count, bodies_before}
-use Rattle.bc_records.specs.Read.{text, read_type, read_types, read_constants, read_metas, read_named, read_symbol, read_text, declared, with_code, read_outline, read_inner, inner_of, read_module}
+use Rattle.bc_records.specs.Read.{text, read_type, read_types, read_constants, read_metas, read_named, read_symbol, read_text, declared, with_code, read_outline, read_inner, read_module}
 use Rattle.bc_records.proofs.Agreement.{Agrees}
 use Rattle.bc_records.proofs.FreeModules.{Declared}
 use Rattle.bc_records.proofs.Tests.{Each}

@@ -1,6 +1,6 @@
 //! The block METADATA: metadata, and then named metadata.
 
-ghost use Rattle.std.specs.Prelude.{◌≡◌, ◌++◌, All, IfOk, OnOk, flat_map, map};
+ghost use Rattle.std.specs.Prelude.{◌≡◌, All, IfOk, OnOk, flat_map, map};
 ghost use Rattle.bc_stream.specs.Blocks.{append, no_more, parts_contents};
 ghost use Rattle.bc_records.specs.MetadataRecords.{metadata_entries};
 ghost use Rattle.bc_records.specs.Ranges.{MetaInRange, NamedInRange, PartInRange};

@@ -1,6 +1,6 @@
 //! Records at the end of the parts of a block.
 
-ghost use Rattle.std.specs.Prelude.{◌≡◌, ◌∷◌, ◌++◌, All, IfOk, OnOk};
+ghost use Rattle.std.specs.Prelude.{◌≡◌, ◌++◌, All, IfOk, OnOk};
 ghost use Rattle.bc_stream.specs.Blocks.{a_record, append, no_more, parts_contents};
 ghost use Rattle.bc_records.specs.Entries.{IsText, IsWord};
 

@@ -1,5 +1,5 @@
 -- One record or block more at the end can be written too.
-use Rattle.std.proofs.Common.{ℕ, suc, ◌≡◌, ◌≢◌, ◌≤◌, List, max, arith}
+use Rattle.std.proofs.Common.{ℕ, suc, ◌≡◌, ◌≢◌, ◌≤◌, List, arith}
 use Rattle.bc_stream.specs.Blocks.{Contents, no_more, a_record, a_block, append, HasNoBlockZero, levels}
 use Rattle.bytes_tests.specs.Writable.{IsWritable}
 

@@ -13,7 +13,6 @@ use Rattle.hl_meaning.specs.declared.statement.Stmt.{Stmt, Stmt-F, fold_out-Stmt
 use Rattle.hl_meaning.specs.declared.statement.Stmt.TheVariants as statements
 use Rattle.hl_meaning.specs.declared.statement.Stmt.TheVariants.{rolls-Run}
 use Rattle.hl_meaning.specs.Trees as plain
-use Rattle.hl_meaning.specs.Trees.{an_expr}
 use Rattle.hl_meaning.specs.Views.{plain_expr, plain_form, plain_maybe_expr, plain_stmt, stmt_step}
 use Rattle.hl_meaning.proofs.Plain.{plain_expr-is, plain_form-Atomic, plain_form-Binary, plain_form-Build, plain_form-Call, plain_form-Choose, plain_form-Convert, plain_form-Intrinsic, plain_form-Literal, plain_form-Method, plain_form-Pick, plain_form-Read, plain_form-Unary, plain_form-Write, plain_stmt-Run}
 use Rattle.dxil_driver.specs.FirstForm.{expr_store, form_store, literal_word, one_word, store_of, stored, unconverted, word_of}

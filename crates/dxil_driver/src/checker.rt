@@ -1,6 +1,6 @@
 //! From a container to its module.
 
-ghost use Rattle.std.specs.Prelude.{◌≡◌, ◌⊎◌, ◌^◌, ◌<◌, ℕ, length, MatchResult};
+ghost use Rattle.std.specs.Prelude.{◌≡◌, ◌^◌, ◌<◌, length, MatchResult};
 ghost use Rattle.ir_core.specs.declared.module.Module.{Module};
 ghost use Rattle.dxil_driver.specs.Check.{Fails, GivesModule, HasOneAnswer, IsChecked, IsRefused, NamesFault, Passes};
 ghost use Rattle.dxil_driver.specs.Compiled.{Spells};

@@ -1,7 +1,7 @@
 //! The container of a kernel, layer by layer: its module, the records of that, their bits, and the
 //! container around them.
 
-ghost use Rattle.std.specs.Prelude.{◌≡◌, ◌%◌, ◌^◌, ◌≤◌, ◌<◌, length, IfOk};
+ghost use Rattle.std.specs.Prelude.{◌≡◌, ◌%◌, ◌≤◌, ◌<◌, length, IfOk};
 ghost use Rattle.ir_core.specs.declared.module.Module.{Module};
 ghost use Rattle.bc_stream.specs.Blocks.{HasNoBlockZero, contents_of, levels};
 ghost use Rattle.bc_stream.specs.Spelling.{most_levels};

@@ -4,7 +4,7 @@ ghost use Rattle.std.specs.Prelude.{◌≡◌, ◌&&◌, IfOk, map};
 ghost use Rattle.std.specs.Option.{option_map};
 ghost use Rattle.hl_meaning.specs.Held.{plain_program};
 ghost use Rattle.hl_meaning.specs.Views.{plain_expr, plain_form, plain_function, plain_resource, plain_stmt, plain_stmts};
-ghost use Rattle.dxil_driver.specs.FirstForm.{a_store, buffer_of, entry_of, expr_store, form_of, form_store, form_with, is_alone, is_output, is_zero, literal_word, one_word, store_of, stores_of, stores_with, word_of};
+ghost use Rattle.dxil_driver.specs.FirstForm.{a_store, buffer_of, entry_of, form_of, form_store, form_with, is_alone, is_output, is_zero, literal_word, one_word, store_of, stores_of, stores_with, word_of};
 ghost use Rattle.dxil_driver.specs.Reading.{Reads};
 
 use crate::stores::{FirstForm, LiteralStore, LiteralStores};

@@ -1,8 +1,8 @@
 //! What a compilation is asked for.
 
-ghost use Rattle.std.specs.Prelude.{◌≡◌, ◌≢◌, List, [], ◌∷◌, IfOk, MatchBool, MatchOption, map, string_bytes};
+ghost use Rattle.std.specs.Prelude.{◌≡◌, ◌≢◌, [], ◌∷◌, IfOk, MatchBool, MatchOption, map, string_bytes};
 ghost use Rattle.std.specs.Option.{option_map};
-ghost use Rattle.dxil_driver.specs.Options.{Chooses, ChoosesNone, NamesEntry, NamesTarget, default_entry, name_of, options};
+ghost use Rattle.dxil_driver.specs.Options.{Chooses, ChoosesNone, NamesEntry, NamesTarget, name_of, options};
 ghost use Rattle.dxil_driver.specs.declared.options.Target.{Target};
 
 use base_core::{NoMemory, Text};

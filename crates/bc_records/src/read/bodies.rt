@@ -1,7 +1,6 @@
 //! The bodies of blocks FUNCTION.
 
 ghost use Rattle.std.specs.Prelude.{◌≡◌, ◌-◌, [], ◌∷◌, ◌++◌, List, IfOk, OnOk, drop, length, map, replicate};
-ghost use Rattle.std.specs.Option.{option_map_or};
 ghost use Rattle.ir_core.specs.Soundness.{ends_block};
 ghost use Rattle.ir_core.specs.declared.instruction.Inst.TheVariants.{Call};
 ghost use Rattle.ir_core.specs.declared.instruction.Inst.{Inst as AnInst};
@@ -10,7 +9,7 @@ ghost use Rattle.bc_records.specs.BodyRecords.{absolute, filled_blocks};
 ghost use Rattle.bc_records.specs.Entries.{Entry as AnEntry, entries_in, entry as an_entry};
 ghost use Rattle.bc_records.specs.Read.{block_of, read_body, read_count, read_instructions, up_to, word, words};
 ghost use Rattle.bc_records.specs.ReadBodies.{blocks_with, filled_after, unless_empty};
-ghost use Rattle.bc_records.specs.RecordKinds.{first_operand, operand};
+ghost use Rattle.bc_records.specs.RecordKinds.{operand};
 
 use super::constants::constants_in;
 use super::operands::{after, low_word, word_at};

@@ -1,7 +1,7 @@
 //! Functions, and the body of the entry.
 
 ghost use Rattle.std.specs.Prelude.{◌≡◌, ◌++◌, ◌<◌, ◌^◌, IfOk, OnOk, map, length};
-ghost use Rattle.dxil_driver.specs.Emitted.{create_handle, buffer_store, emitted_instructions, one_block, emitted_body, entry_function, declared_functions, emitted_functions};
+ghost use Rattle.dxil_driver.specs.Emitted.{create_handle, buffer_store, emitted_instructions, one_block, emitted_body, declared_functions, emitted_functions};
 ghost use Rattle.dxil_driver.specs.Places.{AreShort};
 
 use super::constants;

@@ -1,6 +1,6 @@
 //! Metadata: the version, the shader model, the entry and the buffer.
 
-ghost use Rattle.std.specs.Prelude.{◌≡◌, ◌+◌, ◌^◌, ◌<◌, ◌++◌, IfOk, OnOk};
+ghost use Rattle.std.specs.Prelude.{◌≡◌, ◌+◌, ◌<◌, ◌++◌, IfOk, OnOk};
 ghost use Rattle.dxil_driver.specs.Emitted.{version_metas, function_metas, plain_metas, property_metas, buffer_metas, resource_metas, entry_meta, emitted_metas, named_node, version_names, emitted_named};
 
 use base_core::{NoMemory, Sequence, Text};

@@ -1,6 +1,6 @@
 //! The distinct numbers of the stores, with the place of each.
 
-ghost use Rattle.std.specs.Prelude.{All, ◌≡◌, ℕ, ◌<◌, ◌^◌, ◌++◌, List, [], slice_get, IfOk, OnOk, length, nat_eq};
+ghost use Rattle.std.specs.Prelude.{All, ◌≡◌, ◌<◌, [], slice_get, IfOk, OnOk};
 ghost use Rattle.std.specs.HashMap.{get};
 ghost use Rattle.dxil_driver.specs.Emitted.{IsWord, with_word, words_from, Picks};
 ghost use Rattle.dxil_driver.specs.Places.{Knows};

@@ -1,8 +1,7 @@
-use Rattle.std.proofs.Common.{◌≡◌, ℕ, List, sym, subst, arith}
-use Rattle.std.specs.Prelude.{Result, Err, ◌⊎◌, IfOk, IfErr}
+use Rattle.std.proofs.Common.{◌≡◌, arith}
+use Rattle.std.specs.Prelude.{Err, ◌⊎◌}
 use Rattle.std.specs.Result.{IsErrOf}
-use Rattle.dxil_driver.specs.CompileFaults.{HasProgramFault, of_tokens}
-use Rattle.dxil_driver.specs.declared.compiler.CompileFault.{CompileFault}
+use Rattle.dxil_driver.specs.CompileFaults.{of_tokens}
 use Rattle.dxil_driver.specs.declared.compiler.CompileFault.TheVariants.{Memory}
 use Rattle.dxil_driver.proofs.SourcePrograms.{lex_every_program, lex_every_program_fault, lexed_program, lexed_program_fault, lexed_every_program_fault, spelled_program}
 use Rattle.dxil_driver.proofs.Errors.{answered, named, no_error}

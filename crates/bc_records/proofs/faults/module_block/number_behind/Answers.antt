@@ -1,8 +1,7 @@
-use Rattle.std.proofs.Common.{◌≡◌, None, suc, [], subst, arith}
-use Rattle.bc_stream.specs.Blocks.{no_more, parts_contents}
+use Rattle.std.proofs.Common.{◌≡◌, None, subst, arith}
+use Rattle.bc_stream.specs.Blocks.{parts_contents}
 use Rattle.bc_records.specs.FaultSearch.{first_fault}
 use Rattle.bc_records.specs.RecordFaults.{module_inside}
-use Rattle.bc_records.specs.RecordKinds.{type_kinds}
 use Rattle.bc_records.proofs.FaultFlat.{types-none, constants-none, metadata-none, symbols-none}
 use Rattle.bc_records.proofs.faults.module_block.number_behind.Goals as goal
 

@@ -1,0 +1,5 @@
+use Rattle.typed_laws.proofs.Programs as programs
+use Rattle.typed_laws.proofs.laws.values_fit.Goals as goal
+
+pub returns : goal.returns
+returns c = programs.values_fit

@@ -16,9 +16,9 @@ use Rattle.lane_core.specs.Replies.{reply_words}
 use Rattle.hl_source.specs.Offsets.{picked_words}
 use Rattle.hl_source.specs.Intrinsics.{Work, barrier, from_all, from_one, from_three, from_two, of_lane, own_form, wave, wave_alone, wave_at, wave_four, wave_words, work_of, worked}
 use Rattle.hl_source.specs.Expressions.{acts, assigned, assigns, atomic_original, read_if, write_if}
-use Rattle.hl_inline.proofs.OperandExpressions.{operand_exprs}
+use Rattle.typed_laws.proofs.OperandExpressions.{operand_exprs}
 use Rattle.hl_inline.specs.Operands.{filled, filled_place, filled_place_if, filled_target, first_expr}
-use Rattle.hl_inline.proofs.OperandLemmas.{is_call_form}
+use Rattle.typed_laws.proofs.OperandValues.{is_call_form}
 use Rattle.hl_inline.proofs.Relation.{Alike, Stands, alike_after, alike_each, alike_goes, flat_of_context}
 use Rattle.hl_inline.proofs.Reading.{Acting, Follow, IsChangedPlace, PlaceIn, acting_follows, alike_asks, alike_asks_word, alike_atomic_place, alike_faults, alike_load_four, alike_read_place, alike_store_four, alike_then, alike_write_place}
 use Rattle.hl_inline.proofs.FilledLemmas.{place_type_filled}

@@ -1,24 +1,21 @@
 -- What a program without calls does first: constants are set, and the parameters of the entry get their semantics.
-use Rattle.std.proofs.Common.{◌≡◌, ◌∙◌, refl, sym, ap, subst, ℕ, zero, suc, ◌+◌, ◌<◌, ◌≤◌, List, [], ◌∷◌, map, length, Option, None, Some, slice_get, unwrap_or, get_or, arith}
-use Rattle.std.specs.Prelude.{IsTrue, option_map, take}
+use Rattle.std.proofs.Common.{◌≡◌, ◌∙◌, refl, sym, ap, subst, ℕ, zero, suc, ◌+◌, ◌<◌, List, [], ◌∷◌, map, length, Option, Some, slice_get, unwrap_or, get_or, arith}
+use Rattle.std.specs.Prelude.{option_map, take}
 use Rattle.std.specs.Option.{option_map_or}
 use Rattle.std.specs.List.{concat}
-use Rattle.std.proofs.lemmas.List.{length-take-le}
-use Rattle.lane_core.specs.Lane.{Coordinates, Lane}
+use Rattle.lane_core.specs.Lane.{Lane}
 use Rattle.lane_core.specs.Words.{wrapped}
 use Rattle.hl_meaning.specs.declared.ty.Kind.{Kind}
 use Rattle.hl_meaning.specs.declared.program.Parameter.{Parameter}
 use Rattle.hl_meaning.specs.declared.program.Semantic.{Semantic}
-use Rattle.hl_meaning.specs.declared.program.Semantic.TheVariants.{DispatchThreadId, GroupId, GroupIndex, GroupThreadId}
-use Rattle.hl_meaning.specs.Types.{Ty, array_type, component_count, is_numeric, is_scalar, scalar_type, struct_type, vector_type, void_type}
+use Rattle.hl_meaning.specs.Types.{Ty, component_count, void_type}
 use Rattle.hl_meaning.specs.Trees.{build_form}
 use Rattle.hl_meaning.specs.Places.{variable_type}
 use Rattle.hl_meaning.specs.Programs.{Constant, Program, StructDef, Variable}
 use Rattle.hl_meaning.specs.Layout.{kinds_of, words_of}
 use Rattle.hl_meaning.specs.Views.{exprs_of}
-use Rattle.hl_meaning.specs.WellFormed.{AreNumberedFrom, HasSemantic, HasSemanticIf, HoldWords, IsConstant, IsInput, IsWord}
+use Rattle.hl_meaning.specs.WellFormed.{AreNumberedFrom, IsConstant, IsInput}
 use Rattle.hl_meaning.proofs.LayoutForms.{length-kinds_of}
-use Rattle.hl_meaning.proofs.LayoutLemmas.{words-scalar, words-vector}
 use Rattle.hl_source.specs.State.{Context, Progress, State, after, goes_with, variable_words, with_variable}
 use Rattle.hl_source.specs.Statements.{at_end}
 use Rattle.hl_source.specs.Expressions.{acts, evaluates, values}
@@ -27,11 +24,10 @@ use Rattle.lane_core.specs.Inputs.{coordinates_of}
 use Rattle.hl_inline.specs.FlatTrees.{Flat, flat_input}
 use Rattle.hl_inline.specs.FlatLane.{FlatLeaving, flat_context, flat_end, then_flat}
 use Rattle.hl_inline.specs.InlinedPrograms.{constant_value, literals, set_constants, set_inputs}
-use Rattle.hl_inline.proofs.Induction.{Every}
-use Rattle.hl_inline.proofs.Relation.{count_by_sizes, sizes_at, sizes_in, sizes_set, words_set_other, words_set_same}
+use Rattle.typed_laws.proofs.Induction.{Every}
+use Rattle.typed_laws.proofs.Variables.{count_by_sizes, sizes_at, sizes_in, sizes_set, variable_size, words_set_other, words_set_same}
 use Rattle.hl_inline.proofs.Performing.{perform}
-use Rattle.hl_inline.proofs.Emission.{variable_size}
-use Rattle.hl_inline.proofs.Typed.{and_right, never}
+use Rattle.typed_laws.proofs.Inputs.{Input, components_length, hold_length, input_is, input_of, numeric_words, suits_numeric}
 use Rattle.hl_inline.proofs.FirstStates.{nothing_more, one_more}
 use Rattle.hl_inline.proofs.Fronts.{type_there}
 
@@ -76,12 +72,6 @@ written_at c V number (ws ∷ words) t are sizes (suc v) low =
     (written_at c V (suc number) words (with_variable number ws t) are.1 (one_sizes c V number ws t are.0 sizes) v (omega (arith, low)))
 
 -- constants
-
-hold_length : (kinds : List Kind) (words : List ℕ) → HoldWords kinds words → length words ≡ length kinds
-hold_length [] [] h = refl
-hold_length [] (word ∷ words) h = absurd h
-hold_length (kind ∷ kinds) [] h = absurd h
-hold_length (kind ∷ kinds) (word ∷ words) h = ap suc (hold_length kinds words h.1)
 
 abbrev ones : List ℕ → List (List ℕ)
 ones words = map (λ w. w ∷ []) words
@@ -135,52 +125,6 @@ constants_get (c ∷ constants) (suc k) = constants_get constants k
 
 -- inputs
 
--- a parameter has a semantic, and its variable a type that suits it
-pub record Input (variables : List Variable) (p : Parameter) : Type 0 where
-  pub semantic : Semantic
-  pub ty : Ty
-  pub is_semantic : p.semantic ≡ Some semantic
-  pub is_typed : variable_type variables p.variable ≡ Some ty
-  pub suits : HasSemantic semantic ty
-
-input_of : (variables : List Variable) (p : Parameter) → IsInput variables p → Input variables p
-input_of variables p is = by_cases p.semantic refl (variable_type variables p.variable) refl is.semantic
-  where
-    by_cases : (o : Option Semantic) → p.semantic ≡ o → (t : Option Ty) → variable_type variables p.variable ≡ t → HasSemanticIf o t → Input variables p
-    by_cases None e t e' h = absurd h
-    by_cases (Some semantic) e None e' h = absurd h
-    by_cases (Some semantic) e (Some ty) e' h = record { semantic = semantic; ty = ty; is_semantic = e; is_typed = e'; suits = h }
-
--- so many components are there
-three_length : (ty : Ty) (ws : List ℕ) → component_count ty ≤ 3 → length ws ≡ 3 → length (take (component_count ty) ws) ≡ component_count ty
-three_length ty ws low three = length-take-le (component_count ty) ws (omega (arith, low, three))
-
-one_length : (ty : Ty) (w : ℕ) → IsWord ty → length (take (component_count ty) (w ∷ [])) ≡ component_count ty
-one_length void_type w h = never h
-one_length (scalar_type kind) w h = refl
-one_length (vector_type kind size) w h = never h
-one_length (array_type element count) w h = never h
-one_length (struct_type number) w h = never h
-
-components_length : (threads : Coordinates) (lane : Lane) (semantic : Semantic) (ty : Ty) → HasSemantic semantic ty → length (take (component_count ty) (map wrapped (semantic_components threads lane (Some semantic)))) ≡ component_count ty
-components_length threads lane DispatchThreadId ty h = three_length ty (map wrapped (semantic_components threads lane (Some DispatchThreadId))) h.1 refl
-components_length threads lane GroupId ty h = three_length ty (map wrapped (semantic_components threads lane (Some GroupId))) h.1 refl
-components_length threads lane GroupThreadId ty h = three_length ty (map wrapped (semantic_components threads lane (Some GroupThreadId))) h.1 refl
-components_length threads lane GroupIndex ty h = one_length ty _ h
-
-numeric_words : (structs : List StructDef) (ty : Ty) → IsTrue (is_numeric ty) → component_count ty ≡ words_of structs ty
-numeric_words structs void_type h = never h
-numeric_words structs (scalar_type kind) h = sym (words-scalar structs kind)
-numeric_words structs (vector_type kind size) h = sym (words-vector structs kind size)
-numeric_words structs (array_type element count) h = never h
-numeric_words structs (struct_type number) h = never h
-
-suits_numeric : (semantic : Semantic) (ty : Ty) → HasSemantic semantic ty → IsTrue (is_numeric ty)
-suits_numeric DispatchThreadId ty h = h.0
-suits_numeric GroupId ty h = h.0
-suits_numeric GroupThreadId ty h = h.0
-suits_numeric GroupIndex ty h = and_right (is_scalar ty) (is_numeric ty) h
-
 abbrev pub inputs_words : Program → Lane → List Variable → List Parameter → List (List ℕ)
 inputs_words p lane variables parameters = map (input_words p lane variables) parameters
 
@@ -189,14 +133,9 @@ module _ (p : Program) (lane : Lane) (variables V : List Variable) (first : ℕ)
   abbrev taken : (components : List ℕ) → Option Ty → List ℕ
   taken components o = take (component_count (unwrap_or o void_type)) components
 
-  input_is : (d : Parameter) (i : Input variables d) → input_words p lane variables d ≡ take (component_count i.ty) (map wrapped (semantic_components (coordinates_of p.threads) lane (Some i.semantic)))
-  input_is d i =
-      ap (taken (map wrapped (semantic_components (coordinates_of p.threads) lane d.semantic))) i.is_typed ∙
-      ap (λ o. take (component_count i.ty) (map wrapped (semantic_components (coordinates_of p.threads) lane o))) i.is_semantic
-
   flat_input_is : (d : Parameter) (i : Input variables d) → taken (map wrapped (semantic_components (coordinates_of p.threads) lane (Some i.semantic))) (variable_type V (first + d.variable)) ≡ input_words p lane variables d
   flat_input_is d i =
-      ap (taken (map wrapped (semantic_components (coordinates_of p.threads) lane (Some i.semantic)))) (typed d.variable i.ty i.is_typed) ∙ sym (input_is d i)
+      ap (taken (map wrapped (semantic_components (coordinates_of p.threads) lane (Some i.semantic)))) (typed d.variable i.ty i.is_typed) ∙ sym (input_is p lane variables d i)
 
   -- a parameter with a semantic is set
   one_input : (d : Parameter) (parameters : List Parameter) (semantic : Semantic) → d.semantic ≡ Some semantic → set_inputs first (d ∷ parameters) ≡ flat_input (first + d.variable) semantic ∷ set_inputs first parameters
@@ -227,5 +166,5 @@ module _ (p : Program) (lane : Lane) (variables V : List Variable) (first : ℕ)
       one i = (
         i.ty,
         typed number i.ty (subst (λ m. variable_type variables m ≡ Some i.ty) numbered.0 i.is_typed),
-        ap length (input_is d i) ∙ (components_length (coordinates_of p.threads) lane i.semantic i.ty i.suits ∙ numeric_words c.scope.structs i.ty (suits_numeric i.semantic i.ty i.suits)),
+        ap length (input_is p lane variables d i) ∙ (components_length (coordinates_of p.threads) lane i.semantic i.ty i.suits ∙ numeric_words c.scope.structs i.ty (suits_numeric i.semantic i.ty i.suits)),
       )

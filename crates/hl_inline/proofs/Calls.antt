@@ -17,10 +17,13 @@ use Rattle.hl_inline.specs.FlatLane.{flat_context}
 use Rattle.hl_inline.specs.Emitting.{Emitter, Valued, reading}
 use Rattle.hl_inline.specs.Fresh.{Fresh, Instance, next_of, unnamed}
 use Rattle.hl_inline.specs.InlinedCalls.{Inlined, Passed, call, instance_of, pass_all, result_variables, with_body, with_instance}
-use Rattle.hl_inline.proofs.Relation.{Keeps, Related, Stands, flat_of_context, sizes_at, sizes_in}
-use Rattle.hl_inline.proofs.FittingWords.{Fits, reading_gives}
+use Rattle.hl_inline.proofs.Relation.{Keeps, Related, Stands, flat_of_context}
+use Rattle.typed_laws.proofs.Variables.{sizes_at, sizes_in}
+use Rattle.typed_laws.specs.Fitting.{Fits}
+use Rattle.hl_inline.proofs.FittingWords.{reading_gives}
 use Rattle.hl_inline.proofs.Performing.{Opens, Runs, perform, runs_map, runs_then, runs_with}
-use Rattle.hl_inline.proofs.Emission.{ClosesAs, Emits, HasRoom, HasValue, Later, Stays}
+use Rattle.hl_inline.proofs.Emission.{ClosesAs, Emits, HasRoom, Later, Stays}
+use Rattle.typed_laws.proofs.Sound.{HasValue}
 use Rattle.hl_inline.proofs.Passing.{ArgsReady, ArgsTyped, HeldAs, arg_type, pass_grows, pass_names, passing, runs_giving}
 use Rattle.hl_inline.proofs.Fronts.{IsFront, front_length, front_more, front_trans, instance_type, result_type_at}
 use Rattle.hl_inline.proofs.OperandLemmas.{args_by}

@@ -9,12 +9,12 @@ use Rattle.hl_meaning.specs.Places.{Scope, is_writable_place, path_type, root_ty
 use Rattle.hl_meaning.specs.WellFormed.{IsForm, IsOriginal, IsPlace, IsTarget}
 use Rattle.hl_source.specs.State.{Context}
 use Rattle.hl_inline.specs.Occurrences.{Occurrence, arg_occurrences, args_occurrences, call_occurrence, expr_if_occurrences, expr_occurrences, exprs_occurrences, form_occurrences, location_if_occurrences, location_occurrences, parts_occurrences, place_occurrence, target_occurrences}
-use Rattle.hl_inline.proofs.OperandExpressions.{arg_exprs, args_exprs, expr_if_list, exprs_list, operand_exprs, place_if_exprs}
-use Rattle.hl_inline.specs.Operands.{parts_exprs, place_exprs, target_exprs}
-use Rattle.hl_inline.proofs.Induction.{Every, every_append, every_back, every_front}
+use Rattle.typed_laws.proofs.OperandExpressions.{arg_exprs, args_exprs, expr_if_list, exprs_list, operand_exprs, place_if_exprs}
+use Rattle.typed_laws.specs.Operands.{parts_exprs, place_exprs, target_exprs}
+use Rattle.typed_laws.proofs.Induction.{Every, every_append, every_back, every_front}
 use Rattle.hl_inline.proofs.Reading.{IsChangedPlace, IsInD, PlaceIn}
 use Rattle.hl_inline.proofs.Acts.{ChangedIn, FormIn, TargetIn}
-use Rattle.hl_inline.proofs.Typed.{never}
+use Rattle.typed_laws.proofs.Typed.{never}
 
 -- a variable is one of D
 abbrev pub OccurrenceIn : (D : ℕ → Type 0) → Occurrence → Type 0

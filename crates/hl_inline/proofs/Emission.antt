@@ -1,9 +1,8 @@
 -- What becomes of operands in order does what the operands do.
-use Rattle.std.proofs.Common.{◌≡◌, ◌∙◌, refl, sym, ap, subst, ℕ, ◌+◌, ◌<◌, ◌≤◌, inl, inr, Bool, true, false, List, [], ◌∷◌, ◌++◌, map, length, Option, None, Some, slice_get, unwrap_or, arith}
-use Rattle.std.specs.Prelude.{if◌then◌else◌, option_map, ◌||◌, ◌&&◌, not}
+use Rattle.std.proofs.Common.{◌≡◌, ◌∙◌, refl, sym, ap, subst, ℕ, ◌+◌, ◌<◌, ◌≤◌, inl, inr, Bool, true, false, List, [], ◌∷◌, ◌++◌, map, length, Some, arith}
+use Rattle.std.specs.Prelude.{if◌then◌else◌, ◌||◌, ◌&&◌, not}
 use Rattle.std.proofs.lemmas.List.{append-nil, length-append}
 use Rattle.std.proofs.lemmas.Bool.{true≢false}
-use Rattle.std.proofs.lemmas.Option.{none-some, same_Some, slice_get-map}
 use Rattle.lane_core.specs.Lane.{Lane, Run}
 use Rattle.hl_meaning.specs.Types.{Ty}
 use Rattle.hl_meaning.specs.Trees.{Expr, type_of}
@@ -18,28 +17,19 @@ use Rattle.hl_inline.specs.FlatTrees.{Flat, FlatStmt, flat_local}
 use Rattle.hl_inline.specs.FlatLane.{FlatLeaving, flat_context, flat_done, flat_end, then_flat}
 use Rattle.hl_inline.specs.Emitting.{Emitter, Valued, Values, any_call, emit_all, saved, settled, token_of, values_with}
 use Rattle.hl_inline.specs.Fresh.{Fresh, next_of, unnamed}
-use Rattle.hl_inline.proofs.Induction.{Every}
-use Rattle.hl_inline.proofs.ProgressLemmas.{giving}
-use Rattle.hl_inline.proofs.OperandLemmas.{evaluate_all}
-use Rattle.hl_inline.proofs.Relation.{IsOutside, Keeps, Related, Stands, count_by_sizes, flat_of_context, sizes_at, sizes_in, sizes_set, words_set_other, words_set_same}
-use Rattle.hl_inline.proofs.FittingWords.{Fits, fits_length, reading_gives}
-use Rattle.hl_inline.proofs.Performing.{Opens, Runs, Yields, perform, perform_ends, perform_next}
+use Rattle.typed_laws.proofs.Induction.{Every}
+use Rattle.typed_laws.proofs.ProgressLemmas.{giving}
+use Rattle.typed_laws.proofs.OperandValues.{evaluate_all}
+use Rattle.hl_inline.proofs.Relation.{IsOutside, Keeps, Related, Stands, flat_of_context}
+use Rattle.typed_laws.proofs.Variables.{count_by_sizes, sizes_set, variable_size, words_set_other, words_set_same}
+use Rattle.typed_laws.specs.Fitting.{Fits, Yields}
+use Rattle.typed_laws.proofs.Sound.{HasValue}
+use Rattle.typed_laws.proofs.Fitting.{fits_length}
+use Rattle.hl_inline.proofs.FittingWords.{reading_gives}
+use Rattle.hl_inline.proofs.Performing.{Opens, Runs, perform, perform_ends, perform_next}
 use Rattle.hl_inline.proofs.Fronts.{IsFront, front_length, front_more, front_refl, front_trans, next_variable, type_there}
 
 -- variables
-
--- a variable of a type has its words
-pub variable_size : (c : Context) (V : List Variable) (t : State) (w : ℕ) (ty : Ty) → sizes_at t ≡ sizes_in c V → variable_type V w ≡ Some ty → length (variable_words t w) ≡ words_of c.scope.structs ty
-variable_size c V t w ty sizes typed =
-    by_words (slice_get t.variables w) (sym (slice_get-map length t.variables w) ∙ (ap (λ l. slice_get l w) sizes ∙ (slice_get-map (λ v. words_of c.scope.structs v.ty) V w ∙ by_type (slice_get V w) typed)))
-  where
-    by_type : (o : Option Variable) → option_map (λ v. v.ty) o ≡ Some ty → option_map (λ v. words_of c.scope.structs v.ty) o ≡ Some (words_of c.scope.structs ty)
-    by_type None e = absurd (none-some ty e)
-    by_type (Some v) e = ap (λ x. Some (words_of c.scope.structs x)) (same_Some v.ty ty e)
-
-    by_words : (o : Option (List ℕ)) → option_map length o ≡ Some (words_of c.scope.structs ty) → length (unwrap_or o []) ≡ words_of c.scope.structs ty
-    by_words None e = absurd (none-some (words_of c.scope.structs ty) e)
-    by_words (Some ws) e = same_Some (length ws) (words_of c.scope.structs ty) e
 
 pub keeps_trans : (first size below more : ℕ) (t u v : State) → below ≤ more → Keeps first size below t u → Keeps first size more u v → Keeps first size below t v
 keeps_trans first size below more t u v low k l w lower outside = l w (omega (arith, low, lower)) outside ∙ k w lower outside
@@ -80,11 +70,6 @@ keeps_from_more from middle below t u low k w above lower = k w (omega (arith, l
 abbrev pub Stays : {A : Type 0} → Context → List Variable → (first : ℕ) → (D : ℕ → Type 0) → (below more : ℕ) → State → (State → Progress A) → A → State → State → Type 0
 Stays c V first D below more t value a s u =
     Later c V first D below t s u × ((v : State) → KeepsFrom below more u v → value v ≡ goes_with a v)
-
--- What a value of an expression is: words of its type, of which there aren't too many.
-pub record HasValue (c : Context) (e : Expr) : Type 0 where
-  pub fits : (s : State) → Yields (Fits c.scope.structs (type_of e)) (evaluates c e s)
-  pub small : words_of c.scope.structs (type_of e) ≤ most_words
 
 module _ (c : Context) (V : List Variable) (first : ℕ) (stands : Stands c V first) (f : Flat) (lane : Lane) (n : ℕ) (known : flat_context f lane ≡ flat_of_context c V) where
   -- statements before a value, which together do what an expression does

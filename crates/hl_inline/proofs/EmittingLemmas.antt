@@ -1,20 +1,21 @@
 -- Places and forms of what is made of their operands.
-use Rattle.std.proofs.Common.{◌≡◌, ◌∙◌, refl, sym, ap, subst, ℕ, suc, ◌+◌, Bool, true, false, ◌||◌, List, [], ◌∷◌, ◌++◌, map, length, drop, Option, arith}
+use Rattle.std.proofs.Common.{◌≡◌, ◌∙◌, refl, sym, ap, subst, ℕ, ◌+◌, Bool, false, ◌||◌, List, [], ◌∷◌, ◌++◌, length, drop, Option, arith}
 use Rattle.std.proofs.lemmas.List.{length-map}
 use Rattle.lane_core.specs.declared.event.AtomicKind.{AtomicKind}
 use Rattle.hl_meaning.specs.Types.{Ty}
-use Rattle.hl_meaning.specs.Trees.{Expr, Exprs, Form, Location, MaybeExpr, MaybeLocation, PathPart, PathParts, Root, Target, a_location, an_expr, atomic_form, binary_form, build_form, bytes_target, choose_form, constant_root, convert_form, element_root, index_part, intrinsic_form, member_part, method_form, more_parts, no_expr, no_location, no_parts, pick_form, place_target, read_form, shared_root, some_expr, some_location, swizzle_part, unary_form, variable_root, write_form}
+use Rattle.hl_meaning.specs.Trees.{Expr, Exprs, Form, Location, MaybeExpr, MaybeLocation, PathPart, PathParts, Root, Target, a_location, an_expr, atomic_form, binary_form, build_form, bytes_target, choose_form, constant_root, convert_form, element_root, index_part, intrinsic_form, member_part, method_form, more_parts, no_expr, no_parts, pick_form, place_target, read_form, shared_root, some_expr, swizzle_part, unary_form, variable_root, write_form}
 use Rattle.hl_meaning.specs.Views.{exprs_of}
 use Rattle.hl_inline.specs.FlatTrees.{FlatStmt}
-use Rattle.hl_inline.proofs.OperandExpressions.{expr_if_list}
-use Rattle.hl_inline.specs.Operands.{behind_expr_if, behind_target, filled, filled_expr_if, filled_parts, filled_place, filled_place_if, filled_root, filled_target, first_expr, parts_exprs, place_exprs, target_exprs}
+use Rattle.typed_laws.proofs.OperandExpressions.{expr_if_list}
+use Rattle.hl_inline.specs.Operands.{behind_expr_if, behind_target, filled, filled_expr_if, filled_parts, filled_place, filled_place_if, filled_root, filled_target, first_expr}
+use Rattle.typed_laws.specs.Operands.{parts_exprs, place_exprs, target_exprs}
 use Rattle.hl_inline.specs.EmittedExpressions.{emitted, emitter, expr_if_emitters, exprs_emitters, form_emitter, part_emitters, parts_emitters, place_emitters, place_if_emitters, root_emitters, target_emitters}
 use Rattle.hl_inline.specs.Emitting.{Emitter, any_call, emit_all, settled}
 use Rattle.hl_inline.specs.Fresh.{Fresh, Instance}
 use Rattle.hl_inline.specs.InlinedCalls.{Inlined}
 use Rattle.hl_inline.specs.Building.{Made, behind, filled_part, made, made_behind, operand_behind, valued}
 use Rattle.hl_inline.proofs.OperandLemmas.{place_emitters_all}
-use Rattle.hl_inline.proofs.BuildingLemmas.{map_made, node_done, none, one, pair}
+use Rattle.hl_inline.proofs.BuildingLemmas.{map_made, node_done, one, pair}
 use Rattle.hl_inline.proofs.Flags.{any-append, or-false}
 
 -- values in front of others

@@ -17,21 +17,23 @@ use Rattle.hl_source.specs.Expressions.{no_callee}
 use Rattle.hl_inline.specs.FlatTrees.{Flat}
 use Rattle.hl_inline.specs.FlatLane.{flat_context}
 use Rattle.hl_inline.specs.Occurrences.{arg_occurrences, args_occurrences, call_occurrence, form_occurrences, location_occurrences}
-use Rattle.hl_inline.proofs.OperandExpressions.{arg_exprs, args_exprs, operand_exprs}
-use Rattle.hl_inline.specs.Operands.{place_exprs}
+use Rattle.typed_laws.proofs.OperandExpressions.{arg_exprs, args_exprs, operand_exprs}
+use Rattle.typed_laws.specs.Operands.{place_exprs}
 use Rattle.hl_inline.specs.EmittedExpressions.{emitter}
 use Rattle.hl_inline.specs.Fresh.{Instance, nameless}
 use Rattle.hl_inline.specs.InlinedCalls.{Inlined, call, inlined_at}
-use Rattle.hl_inline.proofs.Induction.{Every, Step, by_operands, every_operand, every_back, every_front, every_map}
-use Rattle.hl_inline.proofs.OperandLemmas.{form_emitter_all, is_call_form, args_emitters_all}
+use Rattle.typed_laws.proofs.Induction.{Every, Step, by_operands, every_operand, every_back, every_front, every_map}
+use Rattle.hl_inline.proofs.OperandLemmas.{form_emitter_all, args_emitters_all}
+use Rattle.typed_laws.proofs.OperandValues.{is_call_form}
 use Rattle.hl_inline.proofs.Relation.{Stands, flat_of_context}
 use Rattle.hl_inline.proofs.Reading.{IsChangedPlace}
 use Rattle.hl_inline.proofs.Fronts.{nameless_length, nameless_type}
-use Rattle.hl_inline.proofs.Emission.{Emits, HasValue}
+use Rattle.hl_inline.proofs.Emission.{Emits}
+use Rattle.typed_laws.proofs.Sound.{HasValue, HasPlaceValue}
 use Rattle.hl_inline.proofs.Nodes.{node_emits}
-use Rattle.hl_inline.proofs.Passing.{ArgReady, ArgsReady, ArgsTyped, HasPlaceValue, arg_type}
+use Rattle.hl_inline.proofs.Passing.{ArgReady, ArgsReady, ArgsTyped, arg_type}
 use Rattle.hl_inline.proofs.Calls.{CallReady, Inlines, call_emits}
-use Rattle.hl_inline.proofs.Typed.{IsSome, IsValue, ParamsSome, form_values, place_values}
+use Rattle.typed_laws.proofs.Typed.{IsSome, IsValue, ParamsSome, form_values, place_values}
 use Rattle.hl_inline.proofs.Covered.{Covers, CoversExpr, OccurrenceIn, form_in, operands_covered, place_changed, place_covered, place_in}
 
 -- a function that may be called, with what becomes of it

@@ -6,9 +6,10 @@ use Rattle.std.proofs.Math.Seq.{drop-append_seam}
 use Rattle.std.specs.List.{concat}
 use Rattle.hl_meaning.specs.Trees.{Expr, Form, Location, MaybeExpr, MaybeLocation, PathParts, Target, a_location, atomic_form, binary_form, build_form, bytes_target, call_form, choose_form, constant_root, convert_form, element_root, index_part, intrinsic_form, literal_form, member_part, method_form, more_parts, no_expr, no_location, no_parts, pick_form, place_target, read_form, shared_root, some_expr, some_location, swizzle_part, unary_form, variable_root, write_form, place_type}
 use Rattle.hl_meaning.specs.Views.{exprs_of}
-use Rattle.hl_inline.proofs.OperandExpressions.{expr_if_list, exprs_list, operand_exprs, place_if_exprs}
-use Rattle.hl_inline.specs.Operands.{behind_expr_if, behind_target, filled, filled_expr_if, filled_parts, filled_place, filled_place_if, filled_target, first_expr, parts_exprs, place_exprs, target_exprs}
-use Rattle.hl_inline.proofs.OperandLemmas.{grouped, grouped_atomic, is_call_form}
+use Rattle.typed_laws.proofs.OperandExpressions.{expr_if_list, exprs_list, operand_exprs, place_if_exprs}
+use Rattle.hl_inline.specs.Operands.{behind_expr_if, behind_target, filled, filled_expr_if, filled_parts, filled_place, filled_place_if, filled_target, first_expr}
+use Rattle.typed_laws.specs.Operands.{parts_exprs, place_exprs, target_exprs}
+use Rattle.typed_laws.proofs.OperandValues.{grouped, grouped_atomic, is_call_form}
 
 -- lists of a length
 

@@ -1,7 +1,7 @@
 -- The first state of a function, and what stands in the variables of the function in place where its body begins.
 use Rattle.std.proofs.Common.{◌≡◌, ◌∙◌, refl, sym, ap, subst, ℕ, zero, suc, ◌+◌, ◌<◌, ◌≤◌, ◌⊎◌, inl, inr, List, [], ◌∷◌, ◌++◌, map, length, None, Some, get_or, arith}
 use Rattle.std.specs.Prelude.{drop}
-use Rattle.std.proofs.lemmas.List.{length-map, length-replicate, length-set}
+use Rattle.std.proofs.lemmas.List.{length-map, length-set}
 use Rattle.std.proofs.lemmas.Bool.{cases_eq}
 use Rattle.std.proofs.lemmas.Option.{none-some, same_Some}
 use Rattle.lane_core.specs.Lane.{Lane}
@@ -14,11 +14,11 @@ use Rattle.hl_source.specs.State.{Context, State, goes_with, variable_words, wit
 use Rattle.hl_source.specs.Memory.{zeros_of}
 use Rattle.hl_inline.specs.FlatTrees.{Flat, flat_local}
 use Rattle.hl_inline.specs.FlatLane.{flat_end}
-use Rattle.hl_inline.proofs.Relation.{sizes_at, sizes_in, sizes_set, words_set_other, words_set_same}
+use Rattle.typed_laws.proofs.StatementSizes.{zeros_sizes}
+use Rattle.typed_laws.proofs.Variables.{sizes_at, sizes_in, sizes_set, variable_size, words_set_other, words_set_same}
 use Rattle.hl_inline.proofs.Performing.{perform}
-use Rattle.hl_inline.proofs.Emission.{variable_size}
 use Rattle.hl_inline.proofs.Passing.{HeldAs}
-use Rattle.hl_inline.proofs.Typed.{never}
+use Rattle.typed_laws.proofs.Typed.{never}
 use Rattle.hl_inline.proofs.UsedUndeclaredLemmas.{In, in_cases, in_first, in_rest}
 
 -- sums of places
@@ -100,11 +100,6 @@ zeroed_at first (u ∷ vs) t v there low =
         next h ∙ ap zeros (words_set_other (first + u) (first + v) (zeros (variable_words t (first + u))) t (λ is. apart (omega (arith, is))))
 
 -- the first state of a function
-
-pub zeros_sizes : (c : Context) (vs : List Variable) → map length (map (λ v. zeros_of c v.ty) vs) ≡ map (λ v. words_of c.scope.structs v.ty) vs
-zeros_sizes c [] = refl
-zeros_sizes c (v ∷ vs) =
-    ap (λ k. k ∷ map length (map (λ v. zeros_of c v.ty) vs)) (length-replicate (words_of c.scope.structs v.ty) 0) ∙ ap (λ l. words_of c.scope.structs v.ty ∷ l) (zeros_sizes c vs)
 
 pub first_sizes : (c : Context) (V : List Variable) (t : State) (first : ℕ) (vs : List Variable) (parameters : List Parameter) (words : List (List ℕ)) → sizes_at t ≡ sizes_in c V → length parameters ≤ length vs → length words ≡ length parameters →
     HeldAs t first parameters words → ((v : ℕ) (ty : Ty) → variable_type vs v ≡ Some ty → variable_type V (first + v) ≡ Some ty) →

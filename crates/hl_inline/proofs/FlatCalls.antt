@@ -13,16 +13,17 @@ use Rattle.hl_meaning.specs.WellFormed.{AreNumberedFrom, ArePassed, IsDeclared, 
 use Rattle.hl_inline.specs.FlatTrees.{flat_block, flat_local, flat_named}
 use Rattle.hl_inline.specs.FlatViews.{flat_stmts_of}
 use Rattle.hl_meaning.specs.Operators.{is_among}
-use Rattle.hl_inline.proofs.OperandExpressions.{args_exprs}
-use Rattle.hl_inline.specs.Operands.{filled_place, place_exprs}
+use Rattle.typed_laws.proofs.OperandExpressions.{args_exprs}
+use Rattle.hl_inline.specs.Operands.{filled_place}
+use Rattle.typed_laws.specs.Operands.{place_exprs}
 use Rattle.hl_inline.specs.EmittedCode.{EmittedCode}
 use Rattle.hl_inline.specs.EmittedStatements.{is_call}
 use Rattle.hl_inline.specs.Emitting.{Emitter, Valued, Values, emit_all, reading}
 use Rattle.hl_inline.specs.Fresh.{Fresh, Instance, nameless, next_of, unnamed}
 use Rattle.hl_inline.specs.InlinedCalls.{Inlined, Passed, call, copy_back, instance_of, nothing_passed, pass_all, passed_with, result_variables, start_value, with_body, with_instance}
-use Rattle.hl_inline.proofs.Induction.{Every, every_append, every_back, every_front}
+use Rattle.typed_laws.proofs.Induction.{Every, every_append, every_back, every_front}
 use Rattle.hl_inline.proofs.OperandLemmas.{args_by}
-use Rattle.hl_inline.proofs.Typed.{IsSome, IsValue, place_values}
+use Rattle.typed_laws.proofs.Typed.{IsSome, IsValue, place_values}
 use Rattle.hl_inline.proofs.Fronts.{IsFront, front_more, front_trans, instance_type, nameless_every, nameless_type, result_type_at, type_there}
 use Rattle.hl_inline.proofs.FlatCode.{AreBelow, AreDeclared, AreFitting, Extends, IsCode, IsFitting, below_more, block_fits, code_append, extends_refl, extends_trans, free_name, named_here, no_code, one_code}
 use Rattle.hl_inline.proofs.FlatForms.{StandsFrom, all_first, place_filled, scope_over, writable_filled}

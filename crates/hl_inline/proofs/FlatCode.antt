@@ -11,7 +11,7 @@ use Rattle.hl_inline.specs.FlatWellFormed.{AreFlatStmts, IsFlatStmt, inputs_in, 
 use Rattle.hl_meaning.specs.Operators.{is_among}
 use Rattle.hl_inline.specs.EmittedCode.{as_one}
 use Rattle.hl_inline.specs.Fresh.{Fresh, with_variables}
-use Rattle.hl_inline.proofs.Induction.{Every, every_append}
+use Rattle.typed_laws.proofs.Induction.{Every, every_append}
 use Rattle.hl_inline.proofs.Fronts.{IsFront, front_more, front_refl, front_trans}
 
 abbrev pub AreDeclared : List StructDef → List Variable → Type 0

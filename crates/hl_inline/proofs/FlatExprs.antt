@@ -8,15 +8,15 @@ use Rattle.hl_meaning.specs.Programs.{StructDef, Variable}
 use Rattle.hl_meaning.specs.Places.{Scope, is_index_within, variable_type}
 use Rattle.hl_meaning.specs.WellFormed.{IsDeclared, IsExpr, IsResult}
 use Rattle.hl_inline.specs.FlatTrees.{flat_local}
-use Rattle.hl_inline.proofs.OperandExpressions.{operand_exprs}
+use Rattle.typed_laws.proofs.OperandExpressions.{operand_exprs}
 use Rattle.hl_inline.specs.Operands.{filled}
 use Rattle.hl_inline.specs.EmittedExpressions.{over}
 use Rattle.hl_inline.specs.EmittedStatements.{is_call}
 use Rattle.hl_inline.specs.Emitting.{Emitter, Valued, Values, any_call, emit_all, reading, saved, settled, token_of, values_with}
 use Rattle.hl_inline.specs.Fresh.{Fresh, Instance, next_of, unnamed}
-use Rattle.hl_inline.proofs.Induction.{Every}
-use Rattle.hl_inline.proofs.OperandLemmas.{is_call_form}
-use Rattle.hl_inline.proofs.Typed.{IsSome, IsValue}
+use Rattle.typed_laws.proofs.Induction.{Every}
+use Rattle.typed_laws.proofs.OperandValues.{is_call_form}
+use Rattle.typed_laws.proofs.Typed.{IsSome, IsValue}
 use Rattle.hl_inline.proofs.Fronts.{IsFront, front_more, front_trans, next_variable}
 use Rattle.hl_inline.proofs.FlatCode.{AreBelow, IsCode, IsFitting, code_append, extends_with, no_code, one_code}
 use Rattle.hl_inline.proofs.FlatForms.{ReplaceAll, StandsFrom, form_filled, scope_over}

@@ -16,10 +16,11 @@ use Rattle.hl_meaning.specs.Programs.{Constant, StructDef, Variable}
 use Rattle.hl_meaning.specs.Places.{Scope, has_distinct_letters, has_literal_indexes, is_atomic_place, is_end, is_index_within, is_literal, is_writable, is_writable_place, is_without_repeats, part_type, path_type, reached_type, root_type, variable_type}
 use Rattle.hl_meaning.specs.Views.{exprs_of}
 use Rattle.hl_meaning.specs.WellFormed.{AreExprs, AreParts, Assigns, Builds, IsCompared, IsExpr, IsForm, IsMethod, IsOriginal, IsPlace, IsResult, IsTarget, IsWord}
-use Rattle.hl_inline.proofs.OperandExpressions.{expr_if_list, exprs_list, operand_exprs, place_if_exprs}
-use Rattle.hl_inline.specs.Operands.{behind_expr_if, behind_target, filled, filled_expr_if, filled_parts, filled_place, filled_place_if, filled_root, filled_target, first_expr, parts_exprs, place_exprs, target_exprs}
-use Rattle.hl_inline.proofs.OperandLemmas.{is_call_form}
-use Rattle.hl_inline.proofs.Typed.{and_left, and_right, never}
+use Rattle.typed_laws.proofs.OperandExpressions.{expr_if_list, exprs_list, operand_exprs, place_if_exprs}
+use Rattle.hl_inline.specs.Operands.{behind_expr_if, behind_target, filled, filled_expr_if, filled_parts, filled_place, filled_place_if, filled_root, filled_target, first_expr}
+use Rattle.typed_laws.specs.Operands.{parts_exprs, place_exprs, target_exprs}
+use Rattle.typed_laws.proofs.OperandValues.{is_call_form}
+use Rattle.typed_laws.proofs.Typed.{and_left, and_right, never}
 use Rattle.hl_inline.proofs.FilledLemmas.{place_type_filled}
 
 -- what can be named in a program without calls, which has the structs and the memory of another

@@ -10,7 +10,7 @@ use Rattle.hl_meaning.specs.Places.{Scope, variable_type}
 use Rattle.hl_meaning.specs.WellFormed.{ArePassed, IsDeclared, IsExpr, IsFunction, IsWellFormed, callee_params, callee_result, scope_of}
 use Rattle.hl_meaning.proofs.LayoutForms.{get-next}
 use Rattle.hl_inline.specs.FlatTrees.{flat_local}
-use Rattle.hl_inline.proofs.OperandExpressions.{args_exprs, operand_exprs}
+use Rattle.typed_laws.proofs.OperandExpressions.{args_exprs, operand_exprs}
 use Rattle.hl_inline.specs.UsedUndeclared.{variables_used_undeclared}
 use Rattle.hl_inline.specs.EmittedExpressions.{emitter, node}
 use Rattle.hl_inline.specs.EmittedStatements.{emit_stmts}
@@ -19,10 +19,12 @@ use Rattle.hl_inline.specs.Fresh.{Fresh, Instance}
 use Rattle.hl_inline.specs.InlinedCalls.{Inlined, call, inlined_at}
 use Rattle.hl_inline.specs.InlinedFunctions.{inlined, inlined_after, outside_loops, zeros_first}
 use Rattle.hl_inline.proofs.UsedUndeclaredLemmas.{In, in_first, in_rest, used_undeclared_behind}
-use Rattle.hl_inline.proofs.Induction.{every_map, Every, Step, by_operands, every_both, every_from_all}
-use Rattle.hl_inline.proofs.OperandLemmas.{args_emitters_all, form_emitter_all, is_call_form}
-use Rattle.hl_inline.proofs.Typed.{some_declared, IsValue, ParamsSome, form_values, params_some}
-use Rattle.hl_inline.proofs.Fronts.{type_there, every_type, type_at}
+use Rattle.typed_laws.proofs.Induction.{every_map, Every, Step, by_operands, every_both, every_from_all}
+use Rattle.hl_inline.proofs.OperandLemmas.{args_emitters_all, form_emitter_all}
+use Rattle.typed_laws.proofs.OperandValues.{is_call_form}
+use Rattle.typed_laws.proofs.Typed.{some_declared, IsValue, ParamsSome, form_values, params_some}
+use Rattle.hl_inline.proofs.Fronts.{type_there, type_at}
+use Rattle.typed_laws.proofs.Functions.{every_type}
 use Rattle.hl_inline.proofs.FlatCode.{AreDeclared, IsCode, code_append, code_where, extends_refl, no_code, one_code}
 use Rattle.hl_inline.proofs.FlatForms.{StandsFrom, scope_over}
 use Rattle.hl_inline.proofs.FlatExprs.{IsEmitted, all_given, form_given}

@@ -27,8 +27,8 @@ use Rattle.hl_inline.specs.InlinedCalls.{Inlined}
 use Rattle.hl_inline.specs.Fresh.{nameless}
 use Rattle.hl_inline.specs.InlinedFunctions.{inlined_after}
 use Rattle.hl_inline.specs.InlinedPrograms.{constant_value, entry_body, entry_fresh, entry_instance, flat_around, inlined_entry, inlined_program, literals, set_constants, set_inputs}
-use Rattle.hl_inline.proofs.Induction.{Every, every_append, all_from_every, every_from_all}
-use Rattle.hl_inline.proofs.Typed.{IsSome}
+use Rattle.typed_laws.proofs.Induction.{Every, every_append, all_from_every, every_from_all}
+use Rattle.typed_laws.proofs.Typed.{IsSome}
 use Rattle.hl_inline.proofs.Fronts.{IsFront, front_refl, nameless_every, nameless_type, type_behind, type_front}
 use Rattle.hl_inline.proofs.FlatCode.{AreDeclared, AreFitting, IsCode, IsFitting, block_fits, named_here}
 use Rattle.hl_inline.proofs.FlatExprs.{result_declared}

@@ -16,8 +16,9 @@ use Rattle.hl_inline.specs.EmittedStatements.{Jumps, block_of, choice_of, emit_b
 use Rattle.hl_inline.specs.Emitting.{Valued}
 use Rattle.hl_inline.specs.Fresh.{Fresh, Instance}
 use Rattle.hl_inline.specs.InlinedCalls.{Inlined}
-use Rattle.hl_inline.proofs.Typed.{IsSome, never, some_declared}
-use Rattle.hl_inline.proofs.Fronts.{IsFront, front_refl, front_trans, type_there, every_type, type_at}
+use Rattle.typed_laws.proofs.Typed.{IsSome, never, some_declared}
+use Rattle.hl_inline.proofs.Fronts.{IsFront, front_refl, front_trans, type_there, type_at}
+use Rattle.typed_laws.proofs.Functions.{every_type}
 use Rattle.hl_inline.proofs.FlatCode.{AreBelow, AreDeclared, AreFitting, Extends, IsCode, below_more, block_fits, code_append, code_where, extends_refl, extends_trans, free_name, named_here, named_later, no_code, one_code, one_fits, other_name}
 use Rattle.hl_inline.proofs.FlatForms.{StandsFrom, scope_over}
 use Rattle.hl_inline.proofs.FlatExprs.{Anywhere, IsEmitted, IsGiven}

@@ -1,9 +1,9 @@
 -- Fronts of lists of variables, and the types of variables behind them.
-use Rattle.std.proofs.Common.{◌≡◌, ◌∙◌, refl, sym, ap, ℕ, zero, suc, ◌+◌, ◌<◌, ◌≤◌, false, List, [], ◌∷◌, ◌++◌, length, map, Some, slice_get, arith, subst}
-use Rattle.hl_inline.proofs.Induction.{Every}
+use Rattle.std.proofs.Common.{◌≡◌, ◌∙◌, refl, sym, ap, ℕ, zero, suc, ◌+◌, ◌<◌, ◌≤◌, false, List, [], ◌∷◌, ◌++◌, length, map, Some, slice_get, arith}
+use Rattle.typed_laws.proofs.Induction.{Every}
 use Rattle.std.specs.Prelude.{if◌then◌else◌, option_map}
 use Rattle.std.proofs.lemmas.List.{append_assoc, append-nil, length-append, length-map}
-use Rattle.std.proofs.lemmas.Option.{none-some, same_Some}
+use Rattle.std.proofs.lemmas.Option.{none-some}
 use Rattle.hl_meaning.specs.Types.{Ty, is_void}
 use Rattle.hl_meaning.specs.Places.{variable_type}
 use Rattle.hl_meaning.specs.Programs.{Variable}
@@ -36,12 +36,6 @@ pub type_there : (V : List Variable) (w : ℕ) (ty : Ty) → variable_type V w �
 type_there [] w ty e = absurd (none-some ty e)
 type_there (v ∷ V) zero ty e = omega arith
 type_there (v ∷ V) (suc w) ty e = omega (arith, type_there V w ty e)
-
--- what holds of the types of variables
-pub every_type : (P : Ty → Type 0) (vs : List Variable) → Every (λ v. P v.ty) vs → (v : ℕ) (ty : Ty) → variable_type vs v ≡ Some ty → P ty
-every_type P [] h v ty e = absurd (none-some ty e)
-every_type P (x ∷ vs) h zero ty e = subst P (same_Some x.ty ty e) h.0
-every_type P (x ∷ vs) h (suc v) ty e = every_type P vs h.1 v ty e
 
 -- a variable that is there has a type
 pub type_at : (V : List Variable) (v : ℕ) → v < length V → (ty : Ty) × (variable_type V v ≡ Some ty)

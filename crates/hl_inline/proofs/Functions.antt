@@ -1,16 +1,16 @@
 -- A function that is called and the function in place do the same.
-use Rattle.std.proofs.Common.{◌≡◌, ◌∙◌, refl, sym, ap, subst, ℕ, zero, suc, ◌+◌, ◌<◌, ◌≤◌, ◌⊎◌, inl, inr, Bool, true, false, List, [], ◌∷◌, ◌++◌, map, length, Option, None, Some, slice_get, get_or, arith}
-use Rattle.std.specs.Prelude.{◌||◌, drop, IsTrue, replicate, slice_index_or, take}
+use Rattle.std.proofs.Common.{◌≡◌, ◌∙◌, refl, sym, ap, subst, ℕ, zero, suc, ◌+◌, ◌<◌, ◌≤◌, ◌⊎◌, inl, inr, false, List, [], ◌∷◌, ◌++◌, map, length, Some, slice_get, get_or, arith}
+use Rattle.std.specs.Prelude.{drop, replicate, slice_index_or, take}
 use Rattle.std.proofs.lemmas.List.{append_assoc, append-nil}
 use Rattle.std.proofs.lemmas.Bool.{true≢false}
 use Rattle.std.proofs.lemmas.Option.{none-some, same_Some, unwrap_or-slice_get}
 use Rattle.std.proofs.Math.Seq.{take-append_seam}
 use Rattle.lane_core.specs.Lane.{Exchange, Lane}
-use Rattle.hl_meaning.specs.Types.{Ty, array_type, is_void, scalar_type, struct_type, vector_type, void_type}
+use Rattle.hl_meaning.specs.Types.{Ty, is_void}
 use Rattle.hl_meaning.specs.Trees.{Expr}
 use Rattle.hl_meaning.specs.Places.{variable_type}
 use Rattle.hl_meaning.specs.Programs.{FunctionDef, Program, Variable}
-use Rattle.hl_meaning.specs.WellFormed.{IsDeclared, IsExpr, IsFunction, IsWellFormed, callee_params, one_returns}
+use Rattle.hl_meaning.specs.WellFormed.{IsExpr, IsFunction, IsWellFormed, callee_params, one_returns}
 use Rattle.hl_meaning.proofs.LayoutForms.{get-next}
 use Rattle.hl_source.specs.State.{Callee, Progress, State, after, ends_at, goes_with, variable_words}
 use Rattle.hl_source.specs.Memory.{zeros_of}
@@ -25,31 +25,23 @@ use Rattle.hl_inline.specs.EmittedStatements.{emit_stmts}
 use Rattle.hl_inline.specs.Fresh.{Fresh, Instance, nameless, next_of}
 use Rattle.hl_inline.specs.InlinedCalls.{Inlined, inlined_at}
 use Rattle.hl_inline.specs.InlinedFunctions.{inlined, inlined_after, outside_loops, zeros_first}
-use Rattle.hl_inline.proofs.Induction.{every_map, every_from_all}
-use Rattle.hl_inline.proofs.Relation.{IsOutside, Keeps, Related, Stands, count_by_sizes, flat_of_context}
-use Rattle.hl_inline.proofs.FittingWords.{Fits}
-use Rattle.hl_inline.proofs.Performing.{Runs, Yields, perform, perform_next, perform_one, runs_map}
-use Rattle.hl_inline.proofs.Emission.{HasValue, variable_size}
+use Rattle.hl_inline.proofs.Relation.{IsOutside, Keeps, Related, Stands, flat_of_context}
+use Rattle.typed_laws.proofs.Variables.{count_by_sizes, variable_size}
+use Rattle.typed_laws.specs.Fitting.{Fits, Yields}
+use Rattle.hl_inline.proofs.Performing.{Runs, perform, perform_next, perform_one, runs_map}
+use Rattle.typed_laws.proofs.Sound.{HasValue, CalleesFit, place_value}
 use Rattle.hl_inline.proofs.Passing.{zeros_are}
 use Rattle.hl_inline.proofs.Calls.{BeginsAs, EndsAs, InstanceIn, Inlines, body_code}
 use Rattle.hl_inline.proofs.Growth.{BodyGrows, grows_refl, inlined_grows}
-use Rattle.hl_inline.proofs.Typed.{IsSome, ParamsSome, never, some_declared, params_some}
-use Rattle.hl_inline.proofs.IntrinsicFits.{nothing_fits}
-use Rattle.hl_inline.proofs.Sound.{CalleesFit, place_value, sound}
+use Rattle.typed_laws.proofs.Typed.{ParamsSome, never}
 use Rattle.hl_inline.proofs.Expressions.{CalleeIn}
-use Rattle.hl_inline.proofs.Leaving.{LeavesAs, all_leaves}
+use Rattle.typed_laws.specs.Laws.{LeavesAs}
 use Rattle.hl_inline.proofs.UsedUndeclaredLemmas.{In, InOr, all_known_more, function_covered, in_append_cases, in_front, in_range, known_at_start, range_bounds, used_undeclared_behind}
 use Rattle.hl_inline.proofs.FirstStates.{first_sizes, held_from, nothing_more, one_more, other_words, parameter_words, zeroed, zeroed_at, zeroed_exchange, zeroed_other, zeroed_runs, zeroed_sizes, zero_plus}
 use Rattle.hl_inline.proofs.Statements.{DoesAs, same_name}
 use Rattle.hl_inline.proofs.StatementRuns.{all_emitted}
-use Rattle.hl_inline.proofs.Fronts.{every_type, front_length, front_trans, nameless_length, nameless_type, type_at}
-
--- types that a program declares
-
--- the variables of a function have types
-pub variables_some : (p : Program) (number : ℕ) (d : FunctionDef) → IsFunction p number d → (v : ℕ) (ty : Ty) → variable_type d.variables v ≡ Some ty → IsSome ty
-variables_some p number d is v ty typed =
-    every_type IsSome d.variables (every_map (λ x. IsDeclared p.structs x.ty) (λ x. IsSome x.ty) (λ x h. some_declared p.structs x.ty h) d.variables (every_from_all (λ x. IsDeclared p.structs x.ty) d.variables is.variables)) v ty typed
+use Rattle.typed_laws.proofs.Functions.{end_void, giving_here, leaves_in, params_there, sound_in, variables_some}
+use Rattle.hl_inline.proofs.Fronts.{front_length, front_trans, nameless_length, nameless_type, type_at}
 
 -- what is known of an instance is of the program alone, whichever function of it has it in place
 module _ (p : Program) (lane : Lane) (a b : List Callee) (d e : FunctionDef) (V : List Variable) where
@@ -150,13 +142,6 @@ module _ (p : Program) (V : List Variable) (f : Flat) (lane : Lane) (n : ℕ) wh
 abbrev pub KnowsAs : Program → List Variable → Flat → Lane → Type 0
 KnowsAs p V f lane = (d : FunctionDef) → flat_context f lane ≡ flat_of_context (context_of p lane [] d) V
 
-void_fits : (p : Program) (ty : Ty) → is_void ty ≡ true → Fits p.structs ty []
-void_fits p void_type e = nothing_fits p.structs
-void_fits p (scalar_type kind) e = absurd (true≢false (sym e))
-void_fits p (vector_type kind size) e = absurd (true≢false (sym e))
-void_fits p (array_type element count) e = absurd (true≢false (sym e))
-void_fits p (struct_type number) e = absurd (true≢false (sym e))
-
 -- a function behind those before it
 module _ (p : Program) (well : IsWellFormed p) (V : List Variable) (f : Flat) (lane : Lane) (n : ℕ) (knows : KnowsAs p V f lane) (earlier : List Callee) (before : List Inlined) (ds : List FunctionDef) (more : List FunctionDef) (d : FunctionDef)
     (all : FunctionsAs p V f lane n 0 earlier before ds) (whole : p.functions ≡ ds ++ d ∷ more) (is : IsFunction p (length earlier) d) where
@@ -188,35 +173,13 @@ module _ (p : Program) (well : IsWellFormed p) (V : List Variable) (f : Flat) (l
   callees_fit function e there parameters ex = (function_there function e there).fits parameters ex
 
   some_params : (function : ℕ) → ParamsSome (callee_params (slice_get (take (length earlier) p.functions) function))
-  some_params function = by_function (slice_get (take (length earlier) p.functions) function) refl
-    where
-      by_function : (o : Option FunctionDef) → slice_get (take (length earlier) p.functions) function ≡ o → ParamsSome (callee_params o)
-      by_function None e = tt
-      by_function (Some g) e = params_some g.variables g.parameters (variables_some p function g (function_there function g e).is)
+  some_params = params_there p well lane n earlier d callees_fit
 
   sound_here : (e : Expr) → IsExpr (context_of p lane earlier d).scope e → HasValue (context_of p lane earlier d) e
-  sound_here e h = sound (context_of p lane earlier d) well.structs callees_fit some_params e h
+  sound_here = sound_in p well lane n earlier d callees_fit
 
-  leaves_here : (s : State) → Yields (LeavesAs (context_of p lane earlier d) n sound_here false (one_returns d.body)) (does_all (context_of p lane earlier d) n d.body s)
-  leaves_here s = all_leaves (context_of p lane earlier d) n sound_here d.body false is.body s
-
-  -- the end without a `return` is for functions without a result
-  end_void : one_returns d.body ≡ false → is_void d.result ≡ true
-  end_void none = by_result (is_void d.result) (subst (λ b. IsTrue (is_void d.result || b)) none is.returns)
-    where
-      by_result : (b : Bool) → IsTrue (b || false) → b ≡ true
-      by_result true h = refl
-      by_result false h = never h
-
-  fits_here : (parameters : List (List ℕ)) (x : Exchange) → Yields (Fits p.structs d.result) (callee_of (context_of p lane earlier d) n d parameters x)
-  fits_here parameters x = by_leaving (does_all (context_of p lane earlier d) n d.body (first_state (context_of p lane earlier d) d parameters x)) (leaves_here (first_state (context_of p lane earlier d) d parameters x))
-    where
-      by_leaving : (q : Progress Leaving) → Yields (LeavesAs (context_of p lane earlier d) n sound_here false (one_returns d.body)) q → Yields (Fits p.structs d.result) (after q (λ leaving s. goes_with (returned_value leaving) s))
-      by_leaving (ends_at run) l = tt
-      by_leaving (goes_with at_end s) l = void_fits p d.result (end_void l)
-      by_leaving (goes_with by_break s) l = never l
-      by_leaving (goes_with by_continue s) l = never l
-      by_leaving (goes_with (by_return value) s) l = l
+  leaves_here : (s : State) → Yields (LeavesAs p.structs d.result false (one_returns d.body)) (does_all (context_of p lane earlier d) n d.body s)
+  leaves_here = leaves_in p well lane n earlier d callees_fit is
 
   grows_here : BodyGrows (inlined before d)
   grows_here = inlined_grows before d bodies
@@ -323,14 +286,14 @@ module _ (p : Program) (well : IsWellFormed p) (V : List Variable) (f : Flat) (l
       runs_here =
           by_leaving (does_all (context_of p lane earlier d) n d.body (first_state (context_of p lane earlier d) d parameters x)) (leaves_here (first_state (context_of p lane earlier d) d parameters x)) emitted_code
         where
-          by_leaving : (q : Progress Leaving) → Yields (LeavesAs (context_of p lane earlier d) n sound_here false (one_returns d.body)) q →
+          by_leaving : (q : Progress Leaving) → Yields (LeavesAs p.structs d.result false (one_returns d.body)) q →
               DoesAs own.exit 0 0 (Behind (declared_in (known_at_start d) d.body)) (Behind (known_at_start d)) (Behind (known_at_start d)) Returned q (perform f lane n (emit_stmts before own outside_loops d.body fresh).code (zeroed own.first (variables_used_undeclared d) t)) →
               Runs (EndsAs (context_of p lane earlier d) V own (inlined before d) count (next_of fresh) t) (after q (λ leaving s. goes_with (returned_value leaving) s)) (perform f lane n (body_code (inlined before d) own fresh) t)
           by_leaving (ends_at run) l e = named_body (ends_at run) e
           by_leaving (goes_with at_end s) l (u, e, b) = (
             u,
             named_body (goes_with flat_end u) e,
-            ends_here (declared_in (known_at_start d) d.body) (all_known_more (length d.variables) (known_at_start d) d.body) [] s u b.0 b.1 (λ some. absurd (true≢false (sym (end_void l) ∙ some))),
+            ends_here (declared_in (known_at_start d) d.body) (all_known_more (length d.variables) (known_at_start d) d.body) [] s u b.0 b.1 (λ some. absurd (true≢false (sym (end_void d is.returns l) ∙ some))),
           )
           by_leaving (goes_with by_break s) l e = never l
           by_leaving (goes_with by_continue s) l e = never l
@@ -345,7 +308,7 @@ module _ (p : Program) (well : IsWellFormed p) (V : List Variable) (f : Flat) (l
       names = λ own fresh. (grows_here own fresh).names;
       runs = λ own count fresh place parameters x t begins. runs_here own count fresh place parameters x t begins;
     });
-    fits = fits_here;
+    fits = giving_here p well lane n earlier d callees_fit is;
     is = is;
     grows = grows_here;
     parameters = refl;

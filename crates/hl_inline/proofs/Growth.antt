@@ -5,16 +5,17 @@ use Rattle.hl_meaning.specs.declared.program.Parameter.{Parameter}
 use Rattle.hl_meaning.specs.Types.{Ty}
 use Rattle.hl_meaning.specs.Trees.{Args, Expr, Form, MaybeStmt, Stmt, Stmts, an_expr, atomic_form, binary_form, block_stmt, break_stmt, build_form, call_form, choose_form, continue_stmt, convert_form, do_stmt, for_stmt, if_stmt, intrinsic_form, literal_form, local_stmt, method_form, more_args, more_stmts, no_args, no_stmt, no_stmts, pick_form, place_arg, read_form, return_stmt, run_stmt, some_stmt, type_of, unary_form, value_arg, while_stmt, write_form}
 use Rattle.hl_meaning.specs.Programs.{FunctionDef}
-use Rattle.hl_inline.proofs.OperandExpressions.{args_exprs, operand_exprs}
-use Rattle.hl_inline.specs.Operands.{place_exprs}
+use Rattle.typed_laws.proofs.OperandExpressions.{args_exprs, operand_exprs}
+use Rattle.typed_laws.specs.Operands.{place_exprs}
 use Rattle.hl_inline.specs.EmittedExpressions.{emitted, emitter}
 use Rattle.hl_inline.specs.EmittedStatements.{Jumps, emit_local, emit_return, emit_run, emit_run_if, emit_stmt, emit_stmt_if, emit_stmts, emit_test_if, is_call, jumps_of, run_of, with_jumps}
 use Rattle.hl_inline.specs.Emitting.{Emitter, Valued, any_call, emit_all, saved, settled, token_of}
 use Rattle.hl_inline.specs.Fresh.{Fresh, Instance, next_of, unnamed}
 use Rattle.hl_inline.specs.InlinedCalls.{Argument, Inlined, call, inlined_at, instance_of, pass_all, place_argument, result_variables, value_argument, with_instance}
 use Rattle.hl_inline.specs.InlinedFunctions.{inlined, outside_loops}
-use Rattle.hl_inline.proofs.Induction.{Every, Step, by_operands, every_back, every_front}
-use Rattle.hl_inline.proofs.OperandLemmas.{form_emitter_all, is_call_form, args_by, args_emitters_all}
+use Rattle.typed_laws.proofs.Induction.{Every, Step, by_operands, every_back, every_front}
+use Rattle.hl_inline.proofs.OperandLemmas.{form_emitter_all, args_by, args_emitters_all}
+use Rattle.typed_laws.proofs.OperandValues.{is_call_form}
 use Rattle.hl_inline.proofs.Fronts.{IsFront, front_more, front_refl, front_trans}
 
 pub record Grows (fresh after : Fresh) : Type 0 where

@@ -1,4 +1,3 @@
-pub mod OperandExpressions
 pub mod GivenEmissions
 pub mod EmittedParts
 pub mod CalleeLemmas
@@ -9,8 +8,6 @@ pub mod LastCallLemmas
 pub mod AlongLemmas
 pub mod EmittingLemmas
 pub mod WalkLemmas
-pub mod Induction
-pub mod ProgressLemmas
 pub mod OperandLemmas
 pub mod FilledLemmas
 pub mod Relation
@@ -22,10 +19,8 @@ pub mod Emission
 pub mod Nodes
 pub mod Passing
 pub mod Calls
-pub mod Typed
 pub mod Covered
 pub mod Expressions
-pub mod KindParts
 pub mod Gathering
 pub mod Flags
 pub mod GivenForms
@@ -38,15 +33,10 @@ pub mod Growing
 pub mod Settled
 pub mod Callees
 pub mod Entered
-pub mod ValueFits
-pub mod ReachedTypes
-pub mod IntrinsicFits
-pub mod Sound
 pub mod UsedUndeclaredLemmas
 pub mod Statements
 pub mod Growth
 pub mod FirstStates
-pub mod Leaving
 pub mod StatementRuns
 pub mod Beginnings
 pub mod Functions

@@ -10,20 +10,21 @@ use Rattle.hl_source.specs.State.{Context, State, after}
 use Rattle.hl_source.specs.Expressions.{acts, evaluates}
 use Rattle.hl_inline.specs.FlatTrees.{Flat}
 use Rattle.hl_inline.specs.FlatLane.{flat_context}
-use Rattle.hl_inline.proofs.OperandExpressions.{operand_exprs}
+use Rattle.typed_laws.proofs.OperandExpressions.{operand_exprs}
 use Rattle.hl_inline.specs.Operands.{filled}
 use Rattle.hl_inline.specs.EmittedExpressions.{is_literal_form, node, over}
 use Rattle.hl_inline.specs.Emitting.{Emitter, Values, emit_all}
 use Rattle.hl_inline.specs.Fresh.{Fresh, Instance, next_of}
-use Rattle.hl_inline.proofs.Induction.{Every}
-use Rattle.hl_inline.proofs.ProgressLemmas.{after_cong, after_giving}
-use Rattle.hl_inline.proofs.OperandLemmas.{evaluate_all, grouped, is_call_form, operands_all}
+use Rattle.typed_laws.proofs.Induction.{Every}
+use Rattle.typed_laws.proofs.ProgressLemmas.{after_cong, after_giving}
+use Rattle.typed_laws.proofs.OperandValues.{evaluate_all, grouped, is_call_form, operands_all}
 use Rattle.hl_inline.proofs.FilledLemmas.{filled_grouped, filled_not_call, filled_operands}
 use Rattle.hl_inline.proofs.Relation.{Keeps, Stands, flat_of_context}
 use Rattle.hl_inline.proofs.Reading.{Acting}
 use Rattle.hl_inline.proofs.Acts.{FormIn, SameTypes, alike_acts}
 use Rattle.hl_inline.proofs.Performing.{Opens, alike_map, opens_same, opens_then, perform}
-use Rattle.hl_inline.proofs.Emission.{ClosesAs, Emits, HasRoom, HasValue, Later, OpensAs, all_grow, all_names, all_open, all_quiet, all_typed, keeps_refl}
+use Rattle.hl_inline.proofs.Emission.{ClosesAs, Emits, HasRoom, Later, OpensAs, all_grow, all_names, all_open, all_quiet, all_typed, keeps_refl}
+use Rattle.typed_laws.proofs.Sound.{HasValue}
 
 module _ (c : Context) (V : List Variable) (first : ℕ) (stands : Stands c V first) (f : Flat) (lane : Lane) (n : ℕ) (known : flat_context f lane ≡ flat_of_context c V) where
   -- a form evaluates its operands in order, and then acts

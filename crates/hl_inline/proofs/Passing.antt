@@ -12,26 +12,31 @@ use Rattle.hl_meaning.specs.Trees.{Arg, Args, Expr, Location, a_location, an_exp
 use Rattle.hl_meaning.specs.Places.{variable_type}
 use Rattle.hl_meaning.specs.Programs.{Variable}
 use Rattle.hl_meaning.specs.Layout.{kinds_of, words_of}
-use Rattle.hl_meaning.specs.WellFormed.{most_words}
 use Rattle.hl_source.specs.Operations.{map_2, word_as}
 use Rattle.hl_source.specs.State.{Context, Progress, State, after, alone, ends_at, first_then, goes_with, variable_words, with_variable}
 use Rattle.hl_source.specs.Memory.{read_place, write_place}
 use Rattle.hl_source.specs.Expressions.{acts, arguments, copies_in, copies_out, evaluates, indexes, initial_parameters, value_of_words}
 use Rattle.hl_inline.specs.FlatTrees.{Flat, FlatStmt, flat_local, flat_run}
 use Rattle.hl_inline.specs.FlatLane.{FlatLeaving, flat_context, flat_done, flat_end, then_flat}
-use Rattle.hl_inline.specs.Operands.{filled_place, place_exprs}
+use Rattle.hl_inline.specs.Operands.{filled_place}
+use Rattle.typed_laws.specs.Operands.{place_exprs}
 use Rattle.hl_inline.specs.Emitting.{Emitter, Valued, Values, emit_all, reading}
 use Rattle.hl_inline.specs.Fresh.{Fresh, Instance, next_of}
 use Rattle.hl_inline.specs.InlinedCalls.{Passed, copy_back, pass_all, start_value}
-use Rattle.hl_inline.proofs.Induction.{Every}
-use Rattle.hl_inline.proofs.ProgressLemmas.{after_assoc, after_cong, after_giving, giving}
-use Rattle.hl_inline.proofs.OperandLemmas.{evaluate_all, indexes_all, args_by}
+use Rattle.typed_laws.proofs.Induction.{Every}
+use Rattle.typed_laws.proofs.ProgressLemmas.{after_assoc, after_cong, after_giving, giving}
+use Rattle.typed_laws.proofs.OperandValues.{evaluate_all, indexes_all}
+use Rattle.hl_inline.proofs.OperandLemmas.{args_by}
 use Rattle.hl_inline.proofs.FilledLemmas.{filled_operands}
-use Rattle.hl_inline.proofs.Relation.{Alike, IsOutside, Keeps, KeepsAll, Related, Stands, count_by_sizes, flat_of_context, keeps_all_trans, words_set_other, words_set_same}
+use Rattle.hl_inline.proofs.Relation.{Alike, IsOutside, Keeps, KeepsAll, Related, Stands, flat_of_context, keeps_all_trans}
+use Rattle.typed_laws.proofs.Variables.{count_by_sizes, variable_size, words_set_other, words_set_same}
 use Rattle.hl_inline.proofs.Reading.{Acting, IsChangedPlace, PlaceIn, acting_follows, alike_read_place, alike_then, alike_write_place}
-use Rattle.hl_inline.proofs.FittingWords.{fits_length, reading_words}
-use Rattle.hl_inline.proofs.Performing.{Opens, Runs, Yields, alike_map, perform, runs_map, runs_then}
-use Rattle.hl_inline.proofs.Emission.{Emits, HasValue, KeepsFrom, Later, Stays, all_close, all_grow, all_names, all_typed, keeps_from_more, keeps_refl, related_set_other, storing, variable_size}
+use Rattle.typed_laws.proofs.Fitting.{fits_length}
+use Rattle.hl_inline.proofs.FittingWords.{reading_words}
+use Rattle.hl_inline.proofs.Performing.{Opens, Runs, alike_map, perform, runs_map, runs_then}
+use Rattle.typed_laws.specs.Fitting.{Yields}
+use Rattle.hl_inline.proofs.Emission.{Emits, KeepsFrom, Later, Stays, all_close, all_grow, all_names, all_typed, keeps_from_more, keeps_refl, related_set_other, storing}
+use Rattle.typed_laws.proofs.Sound.{HasPlaceValue, HasValue}
 use Rattle.hl_inline.proofs.Fronts.{IsFront, front_length, front_refl, front_trans, type_there}
 
 -- the variables from a number on hold the words of as many parameters
@@ -60,11 +65,6 @@ arg_type (place_arg place) = place_type place
 abbrev pub ArgsTyped : List Variable → (number : ℕ) → Args → Type 0
 ArgsTyped V number no_args = Unit {0}
 ArgsTyped V number (more_args arg rest) = (variable_type V number ≡ Some (arg_type arg)) × ArgsTyped V (suc number) rest
-
--- a place is read as a value of its type, of which there aren't too many words
-pub record HasPlaceValue (c : Context) (place : Location) : Type 0 where
-  pub long : (ixs : List ℕ) (s : State) → Yields (λ ws. length ws ≡ words_of c.scope.structs (place_type place)) (read_place c place ixs s)
-  pub small : words_of c.scope.structs (place_type place) ≤ most_words
 
 pub zeros_are : (ws : List ℕ) → map {B = ℕ} (λ _. 0) ws ≡ replicate (length ws) 0
 zeros_are [] = refl

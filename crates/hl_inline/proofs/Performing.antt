@@ -6,6 +6,7 @@ use Rattle.hl_inline.specs.FlatTrees.{Flat, FlatStmt}
 use Rattle.hl_inline.specs.FlatViews.{flat_stmts_of}
 use Rattle.hl_inline.specs.FlatLane.{FlatLeaving, flat_end, flat_to, performs, performs_all, then_flat}
 use Rattle.hl_inline.proofs.Relation.{Alike}
+use Rattle.typed_laws.specs.Fitting.{Yields}
 
 abbrev pub perform : Flat → Lane → (n : ℕ) → List FlatStmt → State → Progress FlatLeaving
 perform f lane n code s = performs_all f lane n (flat_stmts_of code) s
@@ -42,11 +43,6 @@ module _ (f : Flat) (lane : Lane) (n : ℕ) where
   -- code in which the run ends
   pub perform_ends : (xs ys : List FlatStmt) (s : State) (run : Run) → perform f lane n xs s ≡ ends_at run → perform f lane n (xs ++ ys) s ≡ ends_at run
   perform_ends xs ys s run e = perform_append xs ys s ∙ ap (λ p. after p (then_flat (perform f lane n ys))) e
-
--- what is given by a part, if it gives something
-abbrev pub Yields : {A : Type 0} → (A → Type 0) → Progress A → Type 0
-Yields P (goes_with a s) = P a
-Yields P (ends_at run) = Unit {0}
 
 -- A part of a program, and code that does the same: both end alike, or the code comes to its end in a state that is
 -- related by what the part gives.

@@ -1,16 +1,13 @@
 -- How a lane of a program and one of the program without calls stand to one another, inside one call of a function.
-use Rattle.std.proofs.Common.{◌≡◌, ◌∙◌, refl, sym, ap, subst, ℕ, ◌+◌, ◌<◌, ◌≤◌, ◌⊎◌, inl, inr, List, [], ◌∷◌, map, length, Some, slice_get, arith}
-use Rattle.std.specs.Prelude.{option_map, slice_set}
-use Rattle.std.proofs.lemmas.List.{get_or-set_other, get_or-set_same, length-map}
+use Rattle.std.proofs.Common.{◌≡◌, ◌∙◌, refl, sym, ap, subst, ℕ, ◌+◌, ◌<◌, ◌≤◌, ◌⊎◌, inl, inr, List, [], ◌∷◌, length, Some, slice_get, arith}
+use Rattle.std.specs.Prelude.{option_map}
 use Rattle.std.proofs.lemmas.Bool.{cases_eq}
-use Rattle.std.proofs.lemmas.Option.{unwrap_or-slice_get}
-use Rattle.std.proofs.Math.Seq.{map-set_same}
 use Rattle.hl_meaning.specs.Types.{Ty, void_type}
 use Rattle.hl_meaning.specs.Places.{variable_type}
 use Rattle.hl_meaning.specs.Programs.{Variable}
-use Rattle.hl_meaning.specs.Layout.{words_of}
 use Rattle.hl_source.specs.State.{Context, Progress, State, after, each, ends_at, goes_with, variable_words, with_variable}
 use Rattle.hl_source.specs.Memory.{constant_words}
+use Rattle.typed_laws.proofs.Variables.{count_by_sizes, sizes_at, sizes_in, sizes_set, words_set_other, words_set_same}
 
 -- what is known in a program without calls, of the same buffers, groupshared variables and lane, with these variables
 abbrev pub flat_of_context : Context → List Variable → Context
@@ -28,13 +25,6 @@ flat_of_context c V = record {
   callees = [];
   lane = c.lane;
 }
-
--- the words of each variable
-abbrev pub sizes_in : Context → List Variable → List ℕ
-sizes_in c V = map (λ v. words_of c.scope.structs v.ty) V
-
-abbrev pub sizes_at : State → List ℕ
-sizes_at s = map length s.variables
 
 -- The state of a function, whose variable of a number stands `first` further in the other state. The variables in D hold
 -- the same words, and each variable has the words of its type.
@@ -76,22 +66,6 @@ alike_each R part other h [] s t r = alike_goes R [] s t r
 alike_each R part other h (x ∷ xs) s t r =
     alike_after R R (part x s) (other x t) _ _ (h x s t r) (λ a s1 t1 r1.
     alike_after R R (each part xs s1) (each other xs t1) _ _ (alike_each R part other h xs s1 t1 r1) (λ as_rest s2 t2 r2. alike_goes R (a ∷ as_rest) s2 t2 r2))
-
--- variables
-
-pub words_set_same : (n : ℕ) (ws : List ℕ) (s : State) → n < length s.variables → variable_words (with_variable n ws s) n ≡ ws
-words_set_same n ws s low = unwrap_or-slice_get (slice_set s.variables n ws) n [] ∙ get_or-set_same s.variables n ws [] low
-
-pub words_set_other : (n m : ℕ) (ws : List ℕ) (s : State) → (m ≡ n → ⊥) → variable_words (with_variable n ws s) m ≡ variable_words s m
-words_set_other n m ws s apart =
-    unwrap_or-slice_get (slice_set s.variables n ws) m [] ∙ (get_or-set_other s.variables n m ws [] apart ∙ sym (unwrap_or-slice_get s.variables m []))
-
-pub sizes_set : (n : ℕ) (ws : List ℕ) (s : State) → length ws ≡ length (variable_words s n) → sizes_at (with_variable n ws s) ≡ sizes_at s
-sizes_set n ws s e = map-set_same length s.variables n ws [] (e ∙ ap length (unwrap_or-slice_get s.variables n []))
-
--- as many variables as there are sizes
-pub count_by_sizes : (c : Context) (V : List Variable) (s : State) → sizes_at s ≡ sizes_in c V → length s.variables ≡ length V
-count_by_sizes c V s e = sym (length-map s.variables length) ∙ (ap length e ∙ length-map V (λ v. words_of c.scope.structs v.ty))
 
 -- what makes an instance of a function stand among the variables of a program without calls: its variables and the
 -- constants have their types, and there is room

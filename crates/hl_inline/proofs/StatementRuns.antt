@@ -24,17 +24,20 @@ use Rattle.hl_inline.specs.EmittedExpressions.{emitted, emitter}
 use Rattle.hl_inline.specs.EmittedStatements.{Jumps, block_of, choice_of, emit_body, emit_local, emit_loop, emit_return, emit_run, emit_run_if, emit_stmt, emit_stmt_if, emit_stmts, emit_test, emit_test_if, is_call, jumps_of, run_of, set_to, with_jumps}
 use Rattle.hl_inline.specs.Fresh.{Fresh, Instance, next_of}
 use Rattle.hl_inline.specs.InlinedCalls.{Inlined, call, inlined_at}
-use Rattle.hl_inline.proofs.ProgressLemmas.{after_assoc, after_cong}
-use Rattle.hl_inline.proofs.OperandLemmas.{is_call_form, args_by, args_emitters_all}
-use Rattle.hl_inline.proofs.Relation.{IsOutside, Keeps, Related, Stands, count_by_sizes, flat_of_context, outside_set, related_set, sizes_at, sizes_in, words_set_other, words_set_same}
-use Rattle.hl_inline.proofs.FittingWords.{Fits, fits_length}
+use Rattle.typed_laws.proofs.ProgressLemmas.{after_assoc, after_cong}
+use Rattle.typed_laws.proofs.OperandValues.{is_call_form}
+use Rattle.hl_inline.proofs.OperandLemmas.{args_by, args_emitters_all}
+use Rattle.hl_inline.proofs.Relation.{IsOutside, Keeps, Related, Stands, flat_of_context, outside_set, related_set}
+use Rattle.typed_laws.proofs.Variables.{count_by_sizes, sizes_at, sizes_in, variable_size, words_set_other, words_set_same}
+use Rattle.typed_laws.specs.Fitting.{Fits}
+use Rattle.typed_laws.proofs.Fitting.{fits_length}
 use Rattle.hl_inline.proofs.Performing.{Runs, perform, perform_one}
-use Rattle.hl_inline.proofs.Emission.{Emits, HasRoom, HasValue, Later, related_set_other, variable_size}
-use Rattle.hl_inline.proofs.Passing.{HasPlaceValue}
+use Rattle.hl_inline.proofs.Emission.{Emits, HasRoom, Later, related_set_other}
+use Rattle.typed_laws.proofs.Sound.{HasValue, HasPlaceValue}
 use Rattle.hl_inline.proofs.Calls.{CallReady, call_called}
 use Rattle.hl_inline.proofs.Growth.{BodyGrows, Grows, grows_trans, loop_grows, maybe_grows, run_if_grows, stmt_grows, stmts_grow, test_if_grows, value_grows}
-use Rattle.hl_inline.proofs.ValueFits.{yields_any}
-use Rattle.hl_inline.proofs.Typed.{IsSome, ParamsSome}
+use Rattle.typed_laws.proofs.ValueFits.{yields_any}
+use Rattle.typed_laws.proofs.Typed.{IsSome, ParamsSome}
 use Rattle.hl_inline.proofs.Covered.{Covers, CoversExpr}
 use Rattle.hl_inline.proofs.Expressions.{CalleeIn, call_ready, emits, emits_plain, operands_emitted}
 use Rattle.hl_inline.proofs.UsedUndeclaredLemmas.{CoveredAll, CoveredIf, CoveredStmt, In, InOr, all_known_more, in_cases, known_more}

@@ -8,7 +8,8 @@ use Rattle.hl_source.specs.State.{Progress, State, after, ends_at, goes_with}
 use Rattle.hl_source.specs.Statements.{Doing, Leaving, after_body, after_statement, after_turn, at_end, by_break, by_continue, by_return, does, turns}
 use Rattle.hl_inline.specs.FlatTrees.{Flat, FlatStmt, flat_named}
 use Rattle.hl_inline.specs.FlatLane.{FlatDoing, FlatLeaving, flat_end, flat_to, flat_turns, named_end, performs, performs_if, then_flat}
-use Rattle.hl_inline.proofs.Performing.{Opens, Yields, perform, perform_append, perform_ends, perform_next, perform_one}
+use Rattle.hl_inline.proofs.Performing.{Opens, perform, perform_append, perform_ends, perform_next, perform_one}
+use Rattle.typed_laws.specs.Fitting.{Yields}
 use Rattle.hl_inline.specs.EmittedCode.{as_alternative, as_one}
 
 -- code as one statement does what the code does

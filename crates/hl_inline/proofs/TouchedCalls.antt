@@ -18,12 +18,13 @@ use Rattle.hl_inline.specs.FlatTrees.{FlatStmt, flat_block, flat_local, flat_nam
 use Rattle.hl_inline.specs.FlatViews.{flat_stmts_of}
 use Rattle.hl_inline.specs.IndexedVariables.{CallTree, call_tree_of, indexed_from, indexes_constant, indexes_variable, lengths_where}
 use Rattle.hl_inline.specs.Occurrences.{Occurrence, args_occurrences, call_occurrence, expr_occurrences, location_occurrences}
-use Rattle.hl_inline.specs.Operands.{filled_place, place_exprs}
+use Rattle.hl_inline.specs.Operands.{filled_place}
+use Rattle.typed_laws.specs.Operands.{place_exprs}
 use Rattle.hl_inline.specs.EmittedCode.{EmittedCode}
 use Rattle.hl_inline.specs.Emitting.{Emitter, Valued, Values, emit_all, reading}
 use Rattle.hl_inline.specs.Fresh.{Fresh, Instance, next_of}
 use Rattle.hl_inline.specs.InlinedCalls.{Inlined, Passed, around_body, call, copy_back, instance_of, pass_all, passed_with, result_variables, start_value, with_instance}
-use Rattle.hl_inline.proofs.Induction.{Every}
+use Rattle.typed_laws.proofs.Induction.{Every}
 use Rattle.hl_inline.proofs.FilledLemmas.{place_filled}
 use Rattle.hl_inline.proofs.OperandLemmas.{args_by}
 use Rattle.hl_inline.proofs.Touching.{Touches, indexed-by, lengths-append, lengths-none, lengths-same, or_both, or_false, or_true, reached_lengths, reached_occurrences, touched, touches_both, touches_none, touches_same, untouched}

@@ -14,15 +14,16 @@ use Rattle.hl_meaning.specs.Places.{Scope, path_type, root_type, variable_type}
 use Rattle.hl_meaning.specs.WellFormed.{ArePassed, IsExpr, IsForm, IsOriginal, IsPassed, IsPlace, callee_params, callee_result, param_of}
 use Rattle.hl_inline.specs.IndexedVariables.{CallTree, call_tree_of}
 use Rattle.hl_inline.specs.Occurrences.{call_occurrence}
-use Rattle.hl_inline.proofs.OperandExpressions.{arg_exprs, args_exprs, operand_exprs}
-use Rattle.hl_inline.specs.Operands.{place_exprs}
+use Rattle.typed_laws.proofs.OperandExpressions.{arg_exprs, args_exprs, operand_exprs}
+use Rattle.typed_laws.specs.Operands.{place_exprs}
 use Rattle.hl_inline.specs.EmittedExpressions.{emitter}
 use Rattle.hl_inline.specs.Fresh.{Instance}
 use Rattle.hl_inline.specs.InlinedCalls.{Inlined, call, inlined_at}
-use Rattle.hl_inline.proofs.Induction.{Every, Step, by_operands, every_back, every_front}
-use Rattle.hl_inline.proofs.OperandLemmas.{args_by, args_emitters_all, form_emitter_all, is_call_form}
+use Rattle.typed_laws.proofs.Induction.{Every, Step, by_operands, every_back, every_front}
+use Rattle.hl_inline.proofs.OperandLemmas.{args_by, args_emitters_all, form_emitter_all}
+use Rattle.typed_laws.proofs.OperandValues.{is_call_form}
 use Rattle.hl_inline.proofs.Reading.{there_by_map}
-use Rattle.hl_inline.proofs.Typed.{IsValue, ParamsSome, form_values, place_values}
+use Rattle.typed_laws.proofs.Typed.{IsValue, ParamsSome, form_values, place_values}
 use Rattle.hl_inline.proofs.TouchedForms.{FormFits, PicksLiterally, PlaceFits, RootFits}
 use Rattle.hl_inline.proofs.TouchedNodes.{EmitsOccurrences, node_as}
 use Rattle.hl_inline.proofs.TouchedCalls.{ArgsOccurrences, ArgOccurrences, CalleeAs, call_as}

@@ -11,9 +11,10 @@ use Rattle.hl_meaning.specs.Programs.{StructDef, Variable}
 use Rattle.hl_meaning.specs.Places.{has_literal_indexes, is_literal}
 use Rattle.hl_inline.specs.IndexedVariables.{CallTree}
 use Rattle.hl_inline.specs.Occurrences.{Occurrence, expr_if_occurrences, expr_occurrences, exprs_occurrences, form_occurrences, location_if_occurrences, location_occurrences, parts_occurrences, place_occurrence, target_occurrences}
-use Rattle.hl_inline.proofs.OperandExpressions.{expr_if_list, exprs_list, operand_exprs, place_if_exprs}
-use Rattle.hl_inline.specs.Operands.{filled_parts, filled_place, parts_exprs, place_exprs, target_exprs}
-use Rattle.hl_inline.proofs.OperandLemmas.{is_call_form}
+use Rattle.typed_laws.proofs.OperandExpressions.{expr_if_list, exprs_list, operand_exprs, place_if_exprs}
+use Rattle.hl_inline.specs.Operands.{filled_parts, filled_place}
+use Rattle.typed_laws.specs.Operands.{parts_exprs, place_exprs, target_exprs}
+use Rattle.typed_laws.proofs.OperandValues.{is_call_form}
 use Rattle.hl_inline.proofs.Touching.{Touches, any_moved, or_false, touched, touches_moved}
 
 -- ---- occurrences

@@ -12,13 +12,14 @@ use Rattle.hl_inline.specs.FlatTrees.{FlatStmt, flat_local}
 use Rattle.hl_inline.specs.FlatViews.{flat_stmts_of}
 use Rattle.hl_inline.specs.IndexedVariables.{CallTree, indexes_variable}
 use Rattle.hl_inline.specs.Occurrences.{Occurrence, expr_occurrences, flat_stmt_occurrences, flat_stmts_occurrences, form_occurrences}
-use Rattle.hl_inline.proofs.OperandExpressions.{expr_if_list, operand_exprs, place_if_exprs}
-use Rattle.hl_inline.specs.Operands.{behind_expr_if, behind_target, filled, filled_place, filled_place_if, filled_target, place_exprs, target_exprs}
+use Rattle.typed_laws.proofs.OperandExpressions.{expr_if_list, operand_exprs, place_if_exprs}
+use Rattle.hl_inline.specs.Operands.{behind_expr_if, behind_target, filled, filled_place, filled_place_if, filled_target}
+use Rattle.typed_laws.specs.Operands.{place_exprs, target_exprs}
 use Rattle.hl_inline.specs.EmittedExpressions.{is_literal_form, node, over}
 use Rattle.hl_inline.specs.Emitting.{Emitter, Valued, Values, any_call, emit_all, reading, saved, settled, token_of, values_with}
 use Rattle.hl_inline.specs.Fresh.{Fresh, Instance, next_of, unnamed}
-use Rattle.hl_inline.proofs.Induction.{Every}
-use Rattle.hl_inline.proofs.OperandLemmas.{is_call_form}
+use Rattle.typed_laws.proofs.Induction.{Every}
+use Rattle.typed_laws.proofs.OperandValues.{is_call_form}
 use Rattle.hl_inline.proofs.FilledLemmas.{filled_not_call, filled_operands}
 use Rattle.hl_inline.proofs.Touching.{Touches, or_both, or_four, or_false, touched, touches_both, touches_none, touches_same, touches_unnamed}
 use Rattle.hl_inline.proofs.TouchedForms.{FormFits, LiteralsAs, PicksLiterally, any_form, form_touches, list_occurrences, literals_back, literals_front, own_place, own_place_if, own_places, own_target, place_touches}

@@ -29,8 +29,8 @@ use Rattle.hl_inline.specs.InlinedFunctions.{inlined, inlined_after, outside_loo
 use Rattle.hl_inline.specs.InlinedPrograms.{entry_body, entry_fresh, entry_instance, inlined_entry, inlined_program, literals, set_constants, set_inputs}
 use Rattle.hl_inline.proofs.Fronts.{nameless_length}
 use Rattle.hl_inline.proofs.Reading.{there_by_map}
-use Rattle.hl_inline.proofs.Functions.{variables_some}
-use Rattle.hl_inline.proofs.Typed.{ParamsSome, params_some}
+use Rattle.typed_laws.proofs.Functions.{variables_some}
+use Rattle.typed_laws.proofs.Typed.{ParamsSome, params_some}
 use Rattle.hl_inline.proofs.Touching.{indexed-by, lengths-append, lengths-same, reached_lengths, reached_occurrences, touched}
 use Rattle.hl_inline.proofs.TouchedNodes.{occurrences-append, occurrences_of}
 use Rattle.hl_inline.proofs.TouchedCalls.{BodyAs, CalleeAs}

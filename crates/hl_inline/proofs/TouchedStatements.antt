@@ -15,7 +15,7 @@ use Rattle.hl_inline.specs.EmittedStatements.{Jumps, block_of, choice_of, emit_b
 use Rattle.hl_inline.specs.Emitting.{Valued}
 use Rattle.hl_inline.specs.Fresh.{Fresh, Instance, next_of}
 use Rattle.hl_inline.specs.InlinedCalls.{Inlined, inlined_at}
-use Rattle.hl_inline.proofs.Typed.{ParamsSome}
+use Rattle.typed_laws.proofs.Typed.{ParamsSome}
 use Rattle.hl_inline.proofs.Touching.{Touches, or_both, or_false, touched, touches_both, touches_none, touches_same, touches_swapped}
 use Rattle.hl_inline.proofs.TouchedNodes.{EmittedAs, grown_next, occurrences-append, occurrences_of, touched-append, untouched_reading}
 use Rattle.hl_inline.proofs.TouchedExpressions.{CalleeThere, indexing}

@@ -9,7 +9,7 @@ use Rattle.hl_inline.specs.Occurrences.{Occurrence, call_occurrence, expr_occurr
 use Rattle.hl_inline.specs.UsedUndeclared.{declared_by, declared_in, parameter_numbers, undeclared, used_undeclared, used_undeclared_if, used_undeclared_in, variable_of, variables_used_undeclared}
 use Rattle.hl_meaning.specs.Operators.{is_among}
 use Rattle.hl_inline.proofs.Covered.{Covers}
-use Rattle.hl_inline.proofs.Typed.{never}
+use Rattle.typed_laws.proofs.Typed.{never}
 
 -- a number is among some
 abbrev pub In : List ℕ → ℕ → Type 0

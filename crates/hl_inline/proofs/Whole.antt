@@ -17,16 +17,16 @@ use Rattle.hl_source.specs.Expressions.{no_callee}
 use Rattle.hl_source.specs.SourceLane.{callees_after, context_of, entry_of, entry_run, input_words, inputs, source_lane}
 use Rattle.hl_inline.specs.FlatTrees.{Flat, FlatStmt}
 use Rattle.hl_inline.specs.FlatLane.{FlatLeaving, flat_context, flat_end, flat_ended, flat_first_state, flat_lane}
-use Rattle.hl_inline.specs.Fresh.{Fresh, Instance}
-use Rattle.hl_inline.specs.InlinedCalls.{Inlined, inlined_at}
+use Rattle.hl_inline.specs.InlinedCalls.{Inlined}
 use Rattle.hl_inline.specs.InlinedFunctions.{inlined_after}
 use Rattle.hl_inline.specs.InlinedPrograms.{entry_body, entry_fresh, entry_instance, flat_around, inlined_entry, inlined_program, set_constants, set_inputs}
-use Rattle.hl_inline.proofs.Induction.{Every, every_from_all}
-use Rattle.hl_inline.proofs.Relation.{sizes_at, sizes_in}
+use Rattle.typed_laws.proofs.Induction.{Every, every_from_all}
+use Rattle.typed_laws.proofs.Variables.{sizes_at, sizes_in}
 use Rattle.hl_inline.proofs.Performing.{Runs, perform, perform_next}
 use Rattle.hl_inline.proofs.Passing.{HeldAs}
 use Rattle.hl_inline.proofs.Calls.{BeginsAs, EndsAs, InstanceIn, body_code}
-use Rattle.hl_inline.proofs.FirstStates.{held_from, nothing_more, zero_plus, zeros_sizes}
+use Rattle.hl_inline.proofs.FirstStates.{held_from, nothing_more, zero_plus}
+use Rattle.typed_laws.proofs.StatementSizes.{zeros_sizes}
 use Rattle.hl_inline.proofs.Beginnings.{AreWords, constants_are, constants_get, constants_run, constants_words, inputs_are, inputs_run, inputs_words, written, written_at, written_below, written_exchange, written_sizes}
 use Rattle.hl_inline.proofs.Functions.{FunctionAs, functions_as, functions_at}
 use Rattle.hl_inline.proofs.Fronts.{IsFront, front_refl, nameless_type, type_behind, type_front}

@@ -1,26 +1,9 @@
 -- The operands of a form of expression, and the form with others in their place.
-use Rattle.std.specs.Prelude.{ℕ, ◌+◌, List, [], ◌∷◌, ◌++◌, drop, length}
+use Rattle.std.specs.Prelude.{ℕ, ◌+◌, List, [], ◌∷◌, drop, length}
 use Rattle.hl_meaning.specs.Types.{void_type}
 use Rattle.hl_meaning.specs.Trees.{Expr, Form, Location, MaybeExpr, MaybeLocation, PathParts, Root, Target, a_location, an_expr, atomic_form, binary_form, build_form, bytes_target, call_form, choose_form, constant_root, convert_form, element_root, index_part, intrinsic_form, literal_form, member_part, method_form, more_parts, no_expr, no_location, no_parts, pick_form, place_target, read_form, shared_root, some_expr, some_location, swizzle_part, unary_form, variable_root, write_form}
 use Rattle.hl_meaning.specs.Views.{exprs_of}
-
--- the indexes of a place, in order
-
-abbrev pub root_exprs : Root → List Expr
-root_exprs (element_root resource index) = index ∷ []
-root_exprs _ = []
-
-abbrev pub parts_exprs : PathParts → List Expr
-parts_exprs no_parts = []
-parts_exprs (more_parts (index_part index) rest) = index ∷ parts_exprs rest
-parts_exprs (more_parts part rest) = parts_exprs rest
-
-abbrev pub place_exprs : Location → List Expr
-place_exprs (a_location ty root parts) = root_exprs root ++ parts_exprs parts
-
-abbrev pub target_exprs : Target → List Expr
-target_exprs (place_target place) = place_exprs place
-target_exprs (bytes_target resource address) = address ∷ []
+use Rattle.typed_laws.specs.Operands.{place_exprs, target_exprs}
 
 -- the first of some expressions; where there is none, one that isn't well formed
 abbrev pub first_expr : List Expr → Expr

@@ -1,0 +1,9 @@
+pub mod Lists
+pub mod WordLemmas
+pub mod Operators
+pub mod Keeping
+pub mod Places
+pub mod Forms
+pub mod Expressions
+pub mod Statements
+pub mod Programs

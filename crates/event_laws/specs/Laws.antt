@@ -1,0 +1,56 @@
+-- What holds of the events that a lane of a well-formed program asks.
+use Rattle.std.specs.Prelude.{◌≡◌, ℕ, ◌^◌, ◌<◌, List, [], ◌∷◌, Some}
+use Rattle.lane_core.specs.declared.event.Asked.{Asked}
+use Rattle.lane_core.specs.declared.event.Asked.TheVariants.{Asks, Ended, Fault, Goes}
+use Rattle.lane_core.specs.declared.event.Event.{Event}
+use Rattle.lane_core.specs.declared.event.Event.TheVariants.{Barrier, BufferAtomic, BufferCompareExchange, BufferLoad, BufferStore, SharedAtomic, SharedCompareExchange, SharedLoad, SharedStore, Wave}
+use Rattle.lane_core.specs.declared.event.Reply.{Reply}
+use Rattle.lane_core.specs.Lane.{Lane, Run}
+use Rattle.hl_meaning.specs.Programs.{Program}
+use Rattle.hl_meaning.specs.WellFormed.{IsWellFormed}
+use Rattle.hl_source.specs.SourceLane.{source_lane}
+
+-- something holds of each of a list
+abbrev pub Every : {A : Type 0} → (A → Type 0) → List A → Type 0
+Every P [] = Unit {0}
+Every P (x ∷ xs) = P x × Every P xs
+
+-- Something holds of all events of a run: of those that had a reply, and of the one that is asked at its end, if one is.
+abbrev pub HoldsAsked : (Event → Type 0) → Asked → Type 0
+HoldsAsked P (Asks event) = P event
+HoldsAsked P Ended = Unit {0}
+HoldsAsked P (Fault fault) = Unit {0}
+HoldsAsked P Goes = Unit {0}
+
+abbrev pub HoldsOfRun : (Event → Type 0) → Run → Type 0
+HoldsOfRun P run = Every P run.events × HoldsAsked P run.outcome
+
+-- Something holds of all events of each run of each lane of a well-formed program, whatever the replies are.
+abbrev pub HoldsOfEvents : (Program → Event → Type 0) → Type 0
+HoldsOfEvents P =
+    (p : Program) → IsWellFormed p → (n : ℕ) (lane : Lane) (replies : List Reply) (run : Run) → source_lane p n lane replies ≡ Some run → HoldsOfRun (P p) run
+
+-- a number of 32 bits
+abbrev pub Is32Bits : ℕ → Type 0
+Is32Bits number = number < 2 ^ 32
+
+-- The numbers in an event that a lane computes: addresses, operands and what is stored. What is named, as a slot or a
+-- variable, isn't among them, nor is how many words are stored.
+abbrev pub numbers_of : Event → List ℕ
+numbers_of (BufferLoad slot index offset) = index ∷ offset ∷ []
+numbers_of (BufferStore slot index offset count words) = index ∷ offset ∷ words
+numbers_of (BufferAtomic slot index offset kind word) = index ∷ offset ∷ word ∷ []
+numbers_of (BufferCompareExchange slot index offset compare word) = index ∷ offset ∷ compare ∷ word ∷ []
+numbers_of (SharedLoad cell) = cell.word ∷ []
+numbers_of (SharedStore cell word) = cell.word ∷ word ∷ []
+numbers_of (SharedAtomic cell kind word) = cell.word ∷ word ∷ []
+numbers_of (SharedCompareExchange cell compare word) = cell.word ∷ compare ∷ word ∷ []
+numbers_of (Barrier mode) = mode ∷ []
+numbers_of (Wave kind operand lane) = operand ∷ lane ∷ []
+
+abbrev pub HasWords : Event → Type 0
+HasWords event = Every Is32Bits (numbers_of event)
+
+-- All numbers that a lane computes for its events are words of 32 bits.
+abbrev pub EventsHaveWords : Type 0
+EventsHaveWords = HoldsOfEvents (λ p event. HasWords event)

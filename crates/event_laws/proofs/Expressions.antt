@@ -2,9 +2,7 @@
 use Rattle.std.proofs.Common.{ℕ, List, [], ◌∷◌, Option, None, Some}
 use Rattle.std.specs.Prelude.{slice_get, slice_index_or}
 use Rattle.lane_core.specs.declared.event.AtomicKind.{AtomicKind}
-use Rattle.lane_core.specs.declared.event.AtomicKind.TheVariants.{Add, And, Or, Xor, IMin, IMax, UMin, UMax, Exchange}
 use Rattle.hl_meaning.specs.declared.program.Copying.{Copying}
-use Rattle.hl_meaning.specs.declared.program.Copying.TheVariants.{CopyBoth, CopyIn, CopyOut}
 use Rattle.hl_meaning.specs.declared.program.Parameter.{Parameter}
 use Rattle.hl_meaning.specs.Types.{Ty}
 use Rattle.hl_meaning.specs.Trees.{Arg, Args, Expr, Exprs, Form, Location, MaybeExpr, MaybeLocation, PathPart, PathParts, Root, Target, a_location, an_expr, atomic_form, binary_form, build_form, bytes_target, call_form, choose_form, constant_root, convert_form, element_root, index_part, intrinsic_form, literal_form, member_part, method_form, more_args, more_exprs, more_parts, no_args, no_expr, no_exprs, no_location, no_parts, pick_form, place_arg, place_target, read_form, shared_root, some_expr, some_location, swizzle_part, type_of, unary_form, value_arg, variable_root, write_form}
@@ -14,15 +12,15 @@ use Rattle.hl_source.specs.Expressions.{argument_of, argument_operands, argument
 use Rattle.event_laws.specs.Laws.{Is32Bits}
 use Rattle.event_laws.proofs.Lists.{AllWords, AreWords}
 use Rattle.event_laws.proofs.Keeping.{Keeping, keeping_after, keeping_alone, keeping_first_then, keeping_goes, keeping_joined, keeping_then}
-use Rattle.event_laws.proofs.Places.{HasConstants}
-use Rattle.event_laws.proofs.Forms.{KeepsCallee, keeping_acts, keeping_copies_in}
+use Rattle.event_laws.proofs.Places.{HasConstants, HasSlots, Proper}
+use Rattle.event_laws.proofs.Forms.{KeepsCallee, keeping_acts, keeping_copies_in, original_place, place_passed, value_passed}
 
-module _ (c : Context) (constants : HasConstants c) (callees : (number : ℕ) → KeepsCallee (slice_index_or c.callees number no_callee)) where
+module _ (c : Context) (constants : HasConstants c) (slots : HasSlots c) (callees : (number : ℕ) → KeepsCallee (Proper c) (slice_index_or c.callees number no_callee)) where
   mutual
-    pub keeping_evaluates : (e : Expr) → IsExpr c.scope e → Keeping AreWords (evaluates c e)
-    keeping_evaluates (an_expr ty at form) h = keeping_after AllWords AreWords _ _ (keeping_operands ty form h.1) (λ words k. keeping_acts c constants callees ty form words h.1 k)
+    pub keeping_evaluates : (e : Expr) → IsExpr c.scope e → Keeping (Proper c) AreWords (evaluates c e)
+    keeping_evaluates (an_expr ty at form) h = keeping_after AllWords AreWords _ _ (keeping_operands ty form h.1) (λ words k. keeping_acts c constants slots callees ty form words h.1 k)
 
-    keeping_operands : (ty : Ty) (form : Form) → IsForm c.scope ty form → Keeping AllWords (operands c form)
+    keeping_operands : (ty : Ty) (form : Form) → IsForm c.scope ty form → Keeping (Proper c) AllWords (operands c form)
     keeping_operands ty (literal_form word) h = keeping_goes AllWords [] tt
     keeping_operands ty (read_form place) h = keeping_alone AreWords _ (keeping_indexes place h.0)
     keeping_operands ty (write_form to op common value old) h = keeping_first_then AreWords _ _ (keeping_indexes to h.0) (keeping_alone AreWords _ (keeping_evaluates value h.3))
@@ -41,68 +39,46 @@ module _ (c : Context) (constants : HasConstants c) (callees : (number : ℕ) �
         (keeping_first_then AreWords _ _ (keeping_compared (type_of value) kind compare h.4)
         (keeping_first_then AreWords _ _ (keeping_evaluates value h.2) (keeping_alone AreWords _ (keeping_original target kind original h.5))))
 
-    keeping_indexes : (place : Location) → IsPlace c.scope place → Keeping AreWords (indexes c place)
+    keeping_indexes : (place : Location) → IsPlace c.scope place → Keeping (Proper c) AreWords (indexes c place)
     keeping_indexes (a_location ty root parts) h = keeping_joined Is32Bits _ _ (keeping_root root h.1) (keeping_steps parts h.2)
 
-    keeping_root : (root : Root) → IsRoot c.scope root → Keeping AreWords (root_index c root)
+    keeping_root : (root : Root) → IsRoot c.scope root → Keeping (Proper c) AreWords (root_index c root)
     keeping_root (element_root resource index) h = keeping_evaluates index h.0
     keeping_root (variable_root number) h = keeping_goes AreWords [] tt
     keeping_root (constant_root number) h = keeping_goes AreWords [] tt
     keeping_root (shared_root number) h = keeping_goes AreWords [] tt
 
-    keeping_steps : (parts : PathParts) → AreParts c.scope parts → Keeping AreWords (step_indexes c parts)
+    keeping_steps : (parts : PathParts) → AreParts c.scope parts → Keeping (Proper c) AreWords (step_indexes c parts)
     keeping_steps no_parts h = keeping_goes AreWords [] tt
     keeping_steps (more_parts first rest) h = keeping_joined Is32Bits _ _ (keeping_step first h.0) (keeping_steps rest h.1)
 
-    keeping_step : (part : PathPart) → IsPart c.scope part → Keeping AreWords (step_index c part)
+    keeping_step : (part : PathPart) → IsPart c.scope part → Keeping (Proper c) AreWords (step_index c part)
     keeping_step (index_part index) h = keeping_evaluates index h.0
     keeping_step (member_part number) h = keeping_goes AreWords [] tt
     keeping_step (swizzle_part letters) h = keeping_goes AreWords [] tt
 
-    keeping_target : (ty : Ty) (target : Target) → IsTarget c.scope ty target → Keeping AreWords (target_indexes c target)
+    keeping_target : (ty : Ty) (target : Target) → IsTarget c.scope ty target → Keeping (Proper c) AreWords (target_indexes c target)
     keeping_target ty (place_target place) h = keeping_indexes place h.0
     keeping_target ty (bytes_target resource address) h = keeping_evaluates address h.1
 
-    keeping_values : (es : Exprs) → AreExprs c.scope es → Keeping AllWords (values c es)
+    keeping_values : (es : Exprs) → AreExprs c.scope es → Keeping (Proper c) AllWords (values c es)
     keeping_values no_exprs h = keeping_goes AllWords [] tt
     keeping_values (more_exprs first rest) h = keeping_first_then AreWords _ _ (keeping_evaluates first h.0) (keeping_values rest h.1)
 
-    keeping_values_if : (resource : ℕ) (taken ty : Ty) (e : MaybeExpr) → IsMethod c.scope resource taken ty e → Keeping AllWords (values_if c e)
+    keeping_values_if : (resource : ℕ) (taken ty : Ty) (e : MaybeExpr) → IsMethod c.scope resource taken ty e → Keeping (Proper c) AllWords (values_if c e)
     keeping_values_if resource taken ty no_expr h = keeping_goes AllWords [] tt
     keeping_values_if resource taken ty (some_expr value) h = keeping_alone AreWords _ (keeping_evaluates value h.2)
 
-    keeping_compared : (ty : Ty) (kind : Option AtomicKind) (e : MaybeExpr) → IsCompared c.scope ty kind e → Keeping AreWords (value_if c e)
+    keeping_compared : (ty : Ty) (kind : Option AtomicKind) (e : MaybeExpr) → IsCompared c.scope ty kind e → Keeping (Proper c) AreWords (value_if c e)
     keeping_compared ty kind no_expr h = keeping_goes AreWords [] tt
     keeping_compared ty None (some_expr value) h = keeping_evaluates value h.0
     keeping_compared ty (Some kind) (some_expr value) h = absurd h
 
-    keeping_original : (target : Target) (kind : Option AtomicKind) (place : MaybeLocation) → IsOriginal c.scope target kind place → Keeping AreWords (indexes_if c place)
+    keeping_original : (target : Target) (kind : Option AtomicKind) (place : MaybeLocation) → IsOriginal c.scope target kind place → Keeping (Proper c) AreWords (indexes_if c place)
     keeping_original target kind no_location h = keeping_goes AreWords [] tt
-    keeping_original target kind (some_location place) h = keeping_indexes place (original_is target kind h)
-      where
-        original_is : (target : Target) (kind : Option AtomicKind) → IsOriginal c.scope target kind (some_location place) → IsPlace c.scope place
-        original_is (place_target to) None h = h.0
-        original_is (place_target to) (Some Add) h = h.0
-        original_is (place_target to) (Some And) h = h.0
-        original_is (place_target to) (Some Or) h = h.0
-        original_is (place_target to) (Some Xor) h = h.0
-        original_is (place_target to) (Some IMin) h = h.0
-        original_is (place_target to) (Some IMax) h = h.0
-        original_is (place_target to) (Some UMin) h = h.0
-        original_is (place_target to) (Some UMax) h = h.0
-        original_is (place_target to) (Some Exchange) h = h.0
-        original_is (bytes_target resource address) None h = h.0
-        original_is (bytes_target resource address) (Some Add) h = h.0
-        original_is (bytes_target resource address) (Some And) h = h.0
-        original_is (bytes_target resource address) (Some Or) h = h.0
-        original_is (bytes_target resource address) (Some Xor) h = h.0
-        original_is (bytes_target resource address) (Some IMin) h = h.0
-        original_is (bytes_target resource address) (Some IMax) h = h.0
-        original_is (bytes_target resource address) (Some UMin) h = h.0
-        original_is (bytes_target resource address) (Some UMax) h = h.0
-        original_is (bytes_target resource address) (Some Exchange) h = h.0
+    keeping_original target kind (some_location place) h = keeping_indexes place (original_place c.scope target kind place h)
 
-    keeping_arguments : (args : Args) (params : List (Option Param)) (parameters : List Parameter) → ArePassed c.scope params args → Keeping AllWords (arguments c args parameters)
+    keeping_arguments : (args : Args) (params : List (Option Param)) (parameters : List Parameter) → ArePassed c.scope params args → Keeping (Proper c) AllWords (arguments c args parameters)
     keeping_arguments no_args params parameters h = keeping_goes AllWords [] tt
     keeping_arguments (more_args first rest) params [] h = keeping_goes AllWords [] tt
     keeping_arguments (more_args first rest) [] (p ∷ parameters) h = absurd h
@@ -110,19 +86,9 @@ module _ (c : Context) (constants : HasConstants c) (callees : (number : ℕ) �
     keeping_arguments (more_args first rest) (Some param ∷ params) (p ∷ parameters) h =
         keeping_joined AreWords _ _ (keeping_argument first param.ty param.copying p.copying h.0) (keeping_arguments rest params parameters h.1)
 
-    keeping_argument : (arg : Arg) (ty : Ty) (copying passing : Copying) → IsPassed c.scope ty copying arg → Keeping AllWords (argument_of c arg passing)
+    keeping_argument : (arg : Arg) (ty : Ty) (copying passing : Copying) → IsPassed c.scope ty copying arg → Keeping (Proper c) AllWords (argument_of c arg passing)
     keeping_argument (value_arg value) ty copying passing h =
-        keeping_then AreWords AllWords _ (argument_operands []) (keeping_evaluates value (value_is copying h)) (λ words k. (tt, (k, tt)))
-      where
-        value_is : (copying : Copying) → IsPassed c.scope ty copying (value_arg value) → IsExpr c.scope value
-        value_is CopyIn h = h.0
-        value_is CopyOut h = absurd h
-        value_is CopyBoth h = absurd h
+        keeping_then AreWords AllWords _ (argument_operands []) (keeping_evaluates value (value_passed c.scope ty copying value h)) (λ words k. (tt, (k, tt)))
     keeping_argument (place_arg place) ty copying passing h =
-        keeping_after AreWords AllWords _ _ (keeping_indexes place (place_is copying h)) (λ index_words i.
-        keeping_then AreWords AllWords _ (argument_operands index_words) (keeping_copies_in c constants passing place index_words i) (λ initial k. (i, (k, tt))))
-      where
-        place_is : (copying : Copying) → IsPassed c.scope ty copying (place_arg place) → IsPlace c.scope place
-        place_is CopyIn h = absurd h
-        place_is CopyOut h = h.0
-        place_is CopyBoth h = h.0
+        keeping_after AreWords AllWords _ _ (keeping_indexes place (place_passed c.scope ty copying place h)) (λ index_words i.
+        keeping_then AreWords AllWords _ (argument_operands index_words) (keeping_copies_in c constants slots passing place (place_passed c.scope ty copying place h) index_words i) (λ initial k. (i, (k, tt))))

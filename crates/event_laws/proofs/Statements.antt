@@ -1,6 +1,7 @@
 -- Well-formed statements keep to words.
 use Rattle.std.proofs.Common.{ℕ, zero, suc, Bool, true, false, [], map, Option, None, Some}
 use Rattle.std.specs.Prelude.{if◌then◌else◌, slice_get, slice_index, slice_index_or, slice_set, unwrap_or}
+use Rattle.lane_core.specs.declared.event.Event.{Event}
 use Rattle.lane_core.specs.Words.{holds}
 use Rattle.hl_meaning.specs.Trees.{Expr, MaybeStmt, Stmt, Stmts, block_stmt, break_stmt, continue_stmt, do_stmt, for_stmt, if_stmt, local_stmt, more_stmts, no_stmt, no_stmts, return_stmt, run_stmt, some_stmt, while_stmt}
 use Rattle.hl_meaning.specs.WellFormed.{AreStmts, IsCondition, IsConditionIf, IsExpr, IsExprIf, IsLocal, IsReturn, IsStmt, IsStmtIf}
@@ -10,7 +11,7 @@ use Rattle.hl_source.specs.Statements.{Doing, Leaving, after_body, after_stateme
 use Rattle.event_laws.proofs.Lists.{AreWords, every_made, every_set, zero_is}
 use Rattle.event_laws.specs.Laws.{Is32Bits}
 use Rattle.event_laws.proofs.Keeping.{Any, Keeping, keeping_after, keeping_goes, keeping_out_of_turns, keeping_sets, keeping_then}
-use Rattle.event_laws.proofs.Places.{HasConstants}
+use Rattle.event_laws.proofs.Places.{HasConstants, HasSlots, Proper}
 use Rattle.event_laws.proofs.Forms.{KeepsCallee}
 use Rattle.event_laws.proofs.Expressions.{keeping_evaluates}
 
@@ -21,65 +22,65 @@ LeavesWords _ = Unit {0}
 
 -- what follows
 
-keeping_after_statement : (next : Doing) → Keeping LeavesWords next → (leaving : Leaving) → LeavesWords leaving → Keeping LeavesWords (after_statement next leaving)
+keeping_after_statement : {E : Event → Type 0} (next : Doing) → Keeping E LeavesWords next → (leaving : Leaving) → LeavesWords leaving → Keeping E LeavesWords (after_statement next leaving)
 keeping_after_statement next h at_end k = h
 keeping_after_statement next h by_break k = keeping_goes LeavesWords by_break k
 keeping_after_statement next h by_continue k = keeping_goes LeavesWords by_continue k
 keeping_after_statement next h (by_return value) k = keeping_goes LeavesWords (by_return value) k
 
-keeping_after_body : (next : Doing) → Keeping LeavesWords next → (leaving : Leaving) → LeavesWords leaving → Keeping LeavesWords (after_body next leaving)
+keeping_after_body : {E : Event → Type 0} (next : Doing) → Keeping E LeavesWords next → (leaving : Leaving) → LeavesWords leaving → Keeping E LeavesWords (after_body next leaving)
 keeping_after_body next h at_end k = h
 keeping_after_body next h by_continue k = h
 keeping_after_body next h by_break k = keeping_goes LeavesWords by_break k
 keeping_after_body next h (by_return value) k = keeping_goes LeavesWords (by_return value) k
 
-keeping_after_turn : (next : Doing) → Keeping LeavesWords next → (leaving : Leaving) → LeavesWords leaving → Keeping LeavesWords (after_turn next leaving)
+keeping_after_turn : {E : Event → Type 0} (next : Doing) → Keeping E LeavesWords next → (leaving : Leaving) → LeavesWords leaving → Keeping E LeavesWords (after_turn next leaving)
 keeping_after_turn next h at_end k = h
 keeping_after_turn next h by_continue k = h
 keeping_after_turn next h by_break k = keeping_goes LeavesWords at_end tt
 keeping_after_turn next h (by_return value) k = keeping_goes LeavesWords (by_return value) k
 
-keeping_choice : (consequent alternative : Doing) → Keeping LeavesWords consequent → Keeping LeavesWords alternative → (b : Bool) → Keeping LeavesWords (choice b consequent alternative)
+keeping_choice : {E : Event → Type 0} (consequent alternative : Doing) → Keeping E LeavesWords consequent → Keeping E LeavesWords alternative → (b : Bool) → Keeping E LeavesWords (choice b consequent alternative)
 keeping_choice consequent alternative h k true = h
 keeping_choice consequent alternative h k false = k
 
-keeping_turns : (turn : Doing) → Keeping LeavesWords turn → (n : ℕ) → Keeping LeavesWords (turns n turn)
+keeping_turns : {E : Event → Type 0} (turn : Doing) → Keeping E LeavesWords turn → (n : ℕ) → Keeping E LeavesWords (turns n turn)
 keeping_turns turn h zero = keeping_out_of_turns LeavesWords
 keeping_turns turn h (suc n) = keeping_after LeavesWords LeavesWords turn (after_turn (turns n turn)) h (keeping_after_turn (turns n turn) (keeping_turns turn h n))
 
-module _ (c : Context) (constants : HasConstants c) (callees : (number : ℕ) → KeepsCallee (slice_index_or c.callees number no_callee)) where
-  keeping_condition : (cond : Expr) → IsCondition c.scope cond → Keeping Any (condition c cond)
-  keeping_condition cond h = keeping_then AreWords Any _ (λ words. holds (slice_index words 0)) (keeping_evaluates c constants callees cond h.0) (λ words k. tt)
+module _ (c : Context) (constants : HasConstants c) (slots : HasSlots c) (callees : (number : ℕ) → KeepsCallee (Proper c) (slice_index_or c.callees number no_callee)) where
+  keeping_condition : (cond : Expr) → IsCondition c.scope cond → Keeping (Proper c) Any (condition c cond)
+  keeping_condition cond h = keeping_then AreWords Any _ (λ words. holds (slice_index words 0)) (keeping_evaluates c constants slots callees cond h.0) (λ words k. tt)
 
-  keeping_condition_if : (cond : Option Expr) → IsConditionIf c.scope cond → Keeping Any (condition_if c cond)
+  keeping_condition_if : (cond : Option Expr) → IsConditionIf c.scope cond → Keeping (Proper c) Any (condition_if c cond)
   keeping_condition_if None h = keeping_goes Any true tt
   keeping_condition_if (Some cond) h = keeping_condition cond h
 
-  keeping_computes : (value : Expr) → IsExpr c.scope value → Keeping LeavesWords (computes c value)
-  keeping_computes value h = keeping_then AreWords LeavesWords _ (λ _. at_end) (keeping_evaluates c constants callees value h) (λ words k. tt)
+  keeping_computes : (value : Expr) → IsExpr c.scope value → Keeping (Proper c) LeavesWords (computes c value)
+  keeping_computes value h = keeping_then AreWords LeavesWords _ (λ _. at_end) (keeping_evaluates c constants slots callees value h) (λ words k. tt)
 
-  keeping_computes_if : (value : Option Expr) → IsExprIf c.scope value → Keeping LeavesWords (computes_if c value)
+  keeping_computes_if : (value : Option Expr) → IsExprIf c.scope value → Keeping (Proper c) LeavesWords (computes_if c value)
   keeping_computes_if None h = keeping_goes LeavesWords at_end tt
   keeping_computes_if (Some value) h = keeping_computes value h
 
-  keeping_declares : (variable : ℕ) (init : Option Expr) → IsLocal c.scope variable init → Keeping LeavesWords (declares c variable init)
+  keeping_declares : (variable : ℕ) (init : Option Expr) → IsLocal c.scope variable init → Keeping (Proper c) LeavesWords (declares c variable init)
   keeping_declares variable None h =
       keeping_sets LeavesWords at_end tt (λ variables. slice_set variables variable (map (λ _. 0) (unwrap_or (slice_get variables variable) [])))
       (λ variables all. every_set AreWords variables variable (map (λ _. 0) (unwrap_or (slice_get variables variable) [])) all (every_made Is32Bits (λ _. 0) (λ _. zero_is) (unwrap_or (slice_get variables variable) [])))
   keeping_declares variable (Some init) h =
-      keeping_after AreWords LeavesWords _ _ (keeping_evaluates c constants callees init h.0) (λ words k. keeping_sets LeavesWords at_end tt (λ variables. slice_set variables variable words)
+      keeping_after AreWords LeavesWords _ _ (keeping_evaluates c constants slots callees init h.0) (λ words k. keeping_sets LeavesWords at_end tt (λ variables. slice_set variables variable words)
       (λ variables all. every_set AreWords variables variable words all k))
 
-  keeping_returns : (value : Option Expr) → IsReturn c.scope value → Keeping LeavesWords (returns c value)
+  keeping_returns : (value : Option Expr) → IsReturn c.scope value → Keeping (Proper c) LeavesWords (returns c value)
   keeping_returns None h = keeping_goes LeavesWords (by_return []) tt
-  keeping_returns (Some value) h = keeping_then AreWords LeavesWords _ by_return (keeping_evaluates c constants callees value h.0) (λ words k. k)
+  keeping_returns (Some value) h = keeping_then AreWords LeavesWords _ by_return (keeping_evaluates c constants slots callees value h.0) (λ words k. k)
 
-  keeping_for_turn : (cond : Option Expr) → IsConditionIf c.scope cond → (body : Doing) → Keeping LeavesWords body → (step : Option Expr) → IsExprIf c.scope step → Keeping LeavesWords (for_turn c cond body step)
+  keeping_for_turn : (cond : Option Expr) → IsConditionIf c.scope cond → (body : Doing) → Keeping (Proper c) LeavesWords body → (step : Option Expr) → IsExprIf c.scope step → Keeping (Proper c) LeavesWords (for_turn c cond body step)
   keeping_for_turn cond h body k step l =
       keeping_after Any LeavesWords _ _ (keeping_condition_if cond h) (λ goes_on _.
       keeping_choice _ _ (keeping_after LeavesWords LeavesWords _ _ k (keeping_after_body _ (keeping_computes_if step l))) (keeping_goes LeavesWords by_break tt) goes_on)
 
-  keeping_do_turn : (body : Doing) → Keeping LeavesWords body → (cond : Expr) → IsCondition c.scope cond → Keeping LeavesWords (do_turn c body cond)
+  keeping_do_turn : (body : Doing) → Keeping (Proper c) LeavesWords body → (cond : Expr) → IsCondition c.scope cond → Keeping (Proper c) LeavesWords (do_turn c body cond)
   keeping_do_turn body h cond k =
       keeping_after LeavesWords LeavesWords _ _ h (keeping_after_body _ (keeping_then Any LeavesWords _ (λ goes_on. if goes_on then at_end else by_break) (keeping_condition cond k) (λ goes_on _. by_test goes_on)))
     where
@@ -89,7 +90,7 @@ module _ (c : Context) (constants : HasConstants c) (callees : (number : ℕ) �
 
   module _ (n : ℕ) where
     mutual
-      keeping_does : (in_loop : Bool) (statement : Stmt) → IsStmt c.scope in_loop statement → Keeping LeavesWords (does c n statement)
+      keeping_does : (in_loop : Bool) (statement : Stmt) → IsStmt c.scope in_loop statement → Keeping (Proper c) LeavesWords (does c n statement)
       keeping_does in_loop (block_stmt body) h = keeping_does_all in_loop body h
       keeping_does in_loop (local_stmt variable init) h = keeping_declares variable init h
       keeping_does in_loop (run_stmt value) h = keeping_computes value h
@@ -104,11 +105,11 @@ module _ (c : Context) (constants : HasConstants c) (callees : (number : ℕ) �
       keeping_does in_loop continue_stmt h = keeping_goes LeavesWords by_continue tt
       keeping_does in_loop (return_stmt value) h = keeping_returns value h
 
-      pub keeping_does_all : (in_loop : Bool) (statements : Stmts) → AreStmts c.scope in_loop statements → Keeping LeavesWords (does_all c n statements)
+      pub keeping_does_all : (in_loop : Bool) (statements : Stmts) → AreStmts c.scope in_loop statements → Keeping (Proper c) LeavesWords (does_all c n statements)
       keeping_does_all in_loop no_stmts h = keeping_goes LeavesWords at_end tt
       keeping_does_all in_loop (more_stmts first rest) h =
           keeping_after LeavesWords LeavesWords _ _ (keeping_does in_loop first h.0) (keeping_after_statement _ (keeping_does_all in_loop rest h.1))
 
-      keeping_does_if : (in_loop : Bool) (statement : MaybeStmt) → IsStmtIf c.scope in_loop statement → Keeping LeavesWords (does_if c n statement)
+      keeping_does_if : (in_loop : Bool) (statement : MaybeStmt) → IsStmtIf c.scope in_loop statement → Keeping (Proper c) LeavesWords (does_if c n statement)
       keeping_does_if in_loop no_stmt h = keeping_goes LeavesWords at_end tt
       keeping_does_if in_loop (some_stmt body) h = keeping_does in_loop body h

@@ -1,12 +1,19 @@
 -- What holds of the events that a lane of a well-formed program asks.
-use Rattle.std.specs.Prelude.{◌≡◌, ℕ, ◌^◌, ◌<◌, List, [], ◌∷◌, Some}
+use Rattle.std.specs.Prelude.{◌≡◌, ℕ, ◌^◌, ◌<◌, List, [], ◌∷◌, Some, IsTrue, slice_get}
 use Rattle.lane_core.specs.declared.event.Asked.{Asked}
 use Rattle.lane_core.specs.declared.event.Asked.TheVariants.{Asks, Ended, Fault, Goes}
+use Rattle.lane_core.specs.declared.event.Cell.{Cell}
 use Rattle.lane_core.specs.declared.event.Event.{Event}
 use Rattle.lane_core.specs.declared.event.Event.TheVariants.{Barrier, BufferAtomic, BufferCompareExchange, BufferLoad, BufferStore, SharedAtomic, SharedCompareExchange, SharedLoad, SharedStore, Wave}
 use Rattle.lane_core.specs.declared.event.Reply.{Reply}
+use Rattle.lane_core.specs.declared.event.Slot.{Slot}
+use Rattle.lane_core.specs.declared.event.WaveKind.{WaveKind}
+use Rattle.lane_core.specs.declared.event.WaveKind.TheVariants.{ReadLaneAt}
 use Rattle.lane_core.specs.Lane.{Lane, Run}
-use Rattle.hl_meaning.specs.Programs.{Program}
+use Rattle.hl_meaning.specs.Layout.{words_of}
+use Rattle.hl_meaning.specs.Operators.{is_among}
+use Rattle.hl_meaning.specs.Programs.{Program, StructDef, Variable}
+use Rattle.hl_meaning.specs.Slots.{slots_of}
 use Rattle.hl_meaning.specs.WellFormed.{IsWellFormed}
 use Rattle.hl_source.specs.SourceLane.{source_lane}
 
@@ -54,3 +61,38 @@ HasWords event = Every Is32Bits (numbers_of event)
 -- All numbers that a lane computes for its events are words of 32 bits.
 abbrev pub EventsHaveWords : Type 0
 EventsHaveWords = HoldsOfEvents (λ p event. HasWords event)
+
+-- the slot of a buffer, where these are the slots of all
+abbrev pub IsSlot : List Slot → Slot → Type 0
+IsSlot slots slot = (resource : ℕ) × (slice_get slots resource ≡ Some slot)
+
+-- a word of a groupshared variable that is there
+abbrev pub IsCell : List StructDef → (shared : List Variable) → Cell → Type 0
+IsCell structs shared target = (v : Variable) × (slice_get shared target.variable ≡ Some v) × (target.word < words_of structs v.ty)
+
+-- the modes of the barriers of the source
+abbrev pub barrier_modes : List ℕ
+barrier_modes = 2 ∷ 3 ∷ 8 ∷ 9 ∷ 10 ∷ 11 ∷ []
+
+-- a wave operation that reads no lane of a number has 0 in its place
+abbrev pub NamesLane : WaveKind → ℕ → Type 0
+NamesLane ReadLaneAt lane = Unit {0}
+NamesLane _ lane = lane ≡ 0
+
+-- An event names buffers and words of groupshared variables that are there, and
+-- is one of the source's barriers or wave operations.
+abbrev pub Names : List StructDef → (shared : List Variable) → List Slot → Event → Type 0
+Names structs shared slots (BufferLoad slot index offset) = IsSlot slots slot
+Names structs shared slots (BufferStore slot index offset count words) = IsSlot slots slot
+Names structs shared slots (BufferAtomic slot index offset kind word) = IsSlot slots slot
+Names structs shared slots (BufferCompareExchange slot index offset compare word) = IsSlot slots slot
+Names structs shared slots (SharedLoad target) = IsCell structs shared target
+Names structs shared slots (SharedStore target word) = IsCell structs shared target
+Names structs shared slots (SharedAtomic target kind word) = IsCell structs shared target
+Names structs shared slots (SharedCompareExchange target compare word) = IsCell structs shared target
+Names structs shared slots (Barrier mode) = IsTrue (is_among barrier_modes mode)
+Names structs shared slots (Wave kind operand lane) = NamesLane kind lane
+
+-- Each event of a lane names what is there in the program.
+abbrev pub EventsNameWhatIsThere : Type 0
+EventsNameWhatIsThere = HoldsOfEvents (λ p event. Names p.structs p.shared (slots_of p.resources) event)

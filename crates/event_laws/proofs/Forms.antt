@@ -1,6 +1,7 @@
 -- What a form does with operands of words keeps to words.
-use Rattle.std.proofs.Common.{◌≡◌, refl, ℕ, Bool, true, false, List, [], ◌∷◌, Option, None, Some, take, drop, arith}
-use Rattle.std.specs.Prelude.{◌&&◌, IsTrue, if◌then◌else◌, slice_get, slice_index, slice_index_or}
+use Rattle.std.proofs.Common.{◌≡◌, ◌≤◌, length, refl, subst, ℕ, suc, zero, Bool, true, false, List, [], ◌∷◌, Option, None, Some, take, drop, map, arith}
+use Rattle.std.specs.Prelude.{◌&&◌, IsTrue, if◌then◌else◌, slice_get, slice_index, slice_index_or, unwrap_or, count_ones}
+use Rattle.std.specs.List.{concat}
 use Rattle.lane_core.specs.declared.event.AtomicKind.{AtomicKind}
 use Rattle.lane_core.specs.declared.event.AtomicKind.TheVariants.{Add, And, Or, Xor, IMin, IMax, UMin, UMax, Exchange}
 use Rattle.lane_core.specs.declared.event.Event.{Event}
@@ -14,21 +15,21 @@ use Rattle.hl_meaning.specs.declared.program.Copying.TheVariants.{CopyBoth, Copy
 use Rattle.hl_meaning.specs.declared.ty.Kind.{Kind}
 use Rattle.hl_meaning.specs.declared.ty.Kind.TheVariants.{Bool as BoolKind, Int as IntKind, Uint as UintKind}
 use Rattle.hl_meaning.specs.Types.{Ty, array_type, scalar_type, struct_type, vector_type, void_type}
-use Rattle.hl_meaning.specs.Trees.{Args, Expr, Form, Location, MaybeExpr, MaybeLocation, PathParts, Target, a_location, atomic_form, binary_form, build_form, bytes_target, call_form, choose_form, convert_form, index_part, intrinsic_form, literal_form, member_part, method_form, more_args, more_parts, no_expr, no_location, no_parts, pick_form, place_arg, place_target, place_type, read_form, some_expr, some_location, swizzle_part, type_of, unary_form, value_arg, write_form}
+use Rattle.hl_meaning.specs.Trees.{Args, Expr, Form, Location, MaybeExpr, MaybeLocation, PathParts, Root, Target, a_location, atomic_form, binary_form, build_form, bytes_target, call_form, choose_form, convert_form, index_part, intrinsic_form, literal_form, member_part, method_form, more_args, more_parts, no_expr, no_location, no_parts, pick_form, place_arg, place_target, place_type, read_form, some_expr, some_location, swizzle_part, type_of, unary_form, value_arg, write_form}
 use Rattle.hl_meaning.specs.Programs.{Member, Resource, StructDef}
 use Rattle.hl_meaning.specs.Layout.{kinds_of, words_of}
 use Rattle.hl_meaning.specs.WellFormed.{ArePassed, IsExpr, IsForm, IsLiteralOf, IsOriginal, IsPassed, IsPlace, IsTarget, Param, callee_params}
 use Rattle.hl_meaning.specs.Operators.{is_among}
 use Rattle.hl_meaning.specs.Places.{Scope, is_raw}
 use Rattle.std.proofs.lemmas.Bool.{false≢true}
-use Rattle.hl_source.specs.Operations.{binary_words, chosen_word, component_kind, converted, less, map_2, unary_word, word_as}
-use Rattle.hl_source.specs.State.{Callee, Context, Progress, State, after, asks, asks_word, ends_at, goes_with}
-use Rattle.hl_source.specs.Offsets.{Reached, holder_of, indexes_of_steps, literal_indexes, member_of, picked_reached, place_of, reached, slot_of, start_of, step_to_element, step_to_letters, step_to_member, type_of_root}
-use Rattle.hl_source.specs.Memory.{load_four, write_place}
+use Rattle.hl_source.specs.Operations.{binary_words, chosen_word, component_kind, converted, less, map_2, map_3, picked, unary_word, word_as}
+use Rattle.hl_source.specs.State.{Callee, Context, Progress, State, after, asks, asks_word, each, ends_at, goes_with}
+use Rattle.hl_source.specs.Offsets.{Reached, holder_of, indexes_of_steps, literal_indexes, member_of, picked_reached, picked_words, place_of, reached, slot_of, start_of, step_to_element, step_to_letters, step_to_member, type_of_root}
+use Rattle.hl_source.specs.Memory.{load_four, write_place, zeros_of}
 use Rattle.hl_source.specs.Intrinsics.{Work, absolute, barrier, clamped, from_all, from_one, from_three, from_two, greater, lesser, of_lane, own_form, wave, wave_alone, wave_at, wave_four, wave_word, wave_words, work_of, worked, works}
 use Rattle.hl_source.specs.Expressions.{acts, assigned, assigns, atomic_original, calls, copies_in, copies_out, initial_parameters, no_callee, read_if, value_of_words, write_if}
 use Rattle.event_laws.specs.Laws.{Every, Is32Bits, IsSlot, NamesLane, barrier_modes}
-use Rattle.event_laws.proofs.Lists.{AllWords, AreWords, every_concat, every_drop, every_get, every_map_3, every_replicate, every_take, every_to, word_at, zero_is}
+use Rattle.event_laws.proofs.Lists.{AllWords, AreWords, every_at, every_concat, every_drop, every_get, every_map_3, every_replicate, every_take, every_to, word_at, zero_is}
 use Rattle.event_laws.proofs.WordLemmas.{first_low_is, ones_is, reversed_is, truth_is, wrapped_is}
 use Rattle.event_laws.proofs.Operators.{all_read_as, binary_all, chosen_is, converted_words, picked_words_are, read_as, unary_is}
 use Rattle.event_laws.proofs.Keeping.{Any, Keeping, Keeps, Sound, keeping_after, keeping_asks, keeping_asks_word, keeping_each, keeping_gives, keeping_goes, keeping_no_value, keeping_then, keeps_after}
@@ -77,115 +78,11 @@ WorksOnWords (wave_at kind) = (lane : ℕ) → NamesLane kind lane
 WorksOnWords _ = Unit {0}
 
 all_work : Every WorksOnWords works
-all_work = (
-  absolute_is,
-  (
-    lesser_is,
-    (
-      greater_is,
-      (
-        clamped_is,
-        (
-          (λ kind a h. ones_is a h),
-          (
-            (λ kind a h. reversed_is a),
-            (
-              (λ kind a h. first_low_is a),
-              (
-                tt,
-                (
-                  tt,
-                  (
-                    (λ kind a h. h),
-                    (
-                      (λ kind a h. h),
-                      (
-                        tt,
-                        (
-                          tt,
-                          (
-                            tt,
-                            (
-                              tt,
-                              (
-                                tt,
-                                (
-                                  tt,
-                                  (
-                                    tt,
-                                    (
-                                      tt,
-                                      (
-                                        tt,
-                                        (
-                                          (omega arith, refl),
-                                          (
-                                            (omega arith, refl),
-                                            (
-                                              (omega arith, refl),
-                                              (
-                                                (omega arith, refl),
-                                                (
-                                                  (omega arith, refl),
-                                                  (
-                                                    (omega arith, refl),
-                                                    (
-                                                      tt,
-                                                      (
-                                                        tt,
-                                                        (
-                                                          tt,
-                                                          (
-                                                            tt,
-                                                            (
-                                                              tt,
-                                                              (
-                                                                tt,
-                                                                (
-                                                                  tt,
-                                                                  (
-                                                                    (λ lane. tt),
-                                                                    (
-                                                                      tt,
-                                                                      (
-                                                                        tt,
-                                                                        (tt, (tt, (tt, (tt, (tt, (tt, (tt, (tt, (tt, (tt, tt)))))))))),
-                                                                      ),
-                                                                    ),
-                                                                  ),
-                                                                ),
-                                                              ),
-                                                            ),
-                                                          ),
-                                                        ),
-                                                      ),
-                                                    ),
-                                                  ),
-                                                ),
-                                              ),
-                                            ),
-                                          ),
-                                        ),
-                                      ),
-                                    ),
-                                  ),
-                                ),
-                              ),
-                            ),
-                          ),
-                        ),
-                      ),
-                    ),
-                  ),
-                ),
-              ),
-            ),
-          ),
-        ),
-      ),
-    ),
-  ),
-)
+all_work =
+    (absolute_is, (lesser_is, (greater_is, (clamped_is, ((λ kind a h. ones_is a h), ((λ kind a h. reversed_is a), ((λ kind a h. first_low_is a), (tt, (tt, ((λ kind a h. h), ((λ kind a h. h), (tt,
+    (tt, (tt, (tt, (tt, (tt, (tt, (tt, (tt, ((omega arith, refl), ((omega arith, refl), ((omega arith, refl), ((omega arith, refl),
+    ((omega arith, refl), ((omega arith, refl), (tt, (tt, (tt, (tt, (tt, (tt, (tt, ((λ lane. tt), (tt, (tt,
+    (tt, (tt, (tt, (tt, (tt, (tt, (tt, (tt, (tt, (tt, tt))))))))))))))))))))))))))))))))))))))))))))))
 
 works_on_words : (number : ℕ) → WorksOnWords (work_of number)
 works_on_words number = every_get WorksOnWords works number own_form all_work tt
@@ -316,6 +213,11 @@ original_place s (bytes_target resource address) (Some UMin) place h = h.0
 original_place s (bytes_target resource address) (Some UMax) place h = h.0
 original_place s (bytes_target resource address) (Some Exchange) place h = h.0
 
+-- a method stores as many words as its name says
+abbrev pub HasCount : Form → List (List ℕ) → Type 0
+HasCount (method_form resource count address (some_expr value)) (at ∷ words ∷ []) = length words ≡ count
+HasCount _ _ = Unit {0}
+
 module _ (c : Context) (constants : HasConstants c) (slots : HasSlots c) where
   -- calls
 
@@ -390,34 +292,34 @@ module _ (c : Context) (constants : HasConstants c) (slots : HasSlots c) where
   picked_are structs from words h =
       picked_words_are from.letters (take (words_of structs from.ty) (drop from.offset words)) (every_take Is32Bits (words_of structs from.ty) (drop from.offset words) (every_drop Is32Bits from.offset words h))
 
-  keeping_method : (ty : Ty) (resource count : ℕ) (address : Expr) (value : MaybeExpr) → IsTrue (is_raw (slice_get c.scope.resources resource)) → (operands : List (List ℕ)) → AllWords operands → Keeping (Proper c) AreWords (acts c ty (method_form resource count address value) operands)
-  keeping_method ty resource count address no_expr raw (at ∷ []) k =
+  keeping_method : (ty : Ty) (resource count : ℕ) (address : Expr) (value : MaybeExpr) → IsTrue (is_raw (slice_get c.scope.resources resource)) → 1 ≤ count → count ≤ 4 → (operands : List (List ℕ)) → AllWords operands → HasCount (method_form resource count address value) operands → Keeping (Proper c) AreWords (acts c ty (method_form resource count address value) operands)
+  keeping_method ty resource count address no_expr raw some most (at ∷ []) k counted =
       keeping_then AreWords AreWords (load_four (slot_of c resource) (slice_index at 0) 0) (take count) (keeping_load_four c (slot_of c resource) (raw_slot c slots resource raw) (slice_index at 0) 0 (word_at at 0 k.0) zero_is) (λ words l. every_take Is32Bits count words l)
-  keeping_method ty resource count address (some_expr value) raw (at ∷ words ∷ []) k = keeping_store_four c (slot_of c resource) (raw_slot c slots resource raw) (slice_index at 0) 0 words (word_at at 0 k.0) zero_is k.1.0
-  keeping_method ty resource count address no_expr raw [] k = keeping_goes AreWords [] tt
-  keeping_method ty resource count address no_expr raw (at ∷ words ∷ operands) k = keeping_goes AreWords [] tt
-  keeping_method ty resource count address (some_expr value) raw [] k = keeping_goes AreWords [] tt
-  keeping_method ty resource count address (some_expr value) raw (at ∷ []) k = keeping_goes AreWords [] tt
-  keeping_method ty resource count address (some_expr value) raw (at ∷ words ∷ others ∷ operands) k = keeping_goes AreWords [] tt
+  keeping_method ty resource count address (some_expr value) raw some most (at ∷ words ∷ []) k counted = keeping_store_four c (slot_of c resource) (raw_slot c slots resource raw) (slice_index at 0) 0 words (word_at at 0 k.0) zero_is k.1.0 (omega (arith, counted, some)) (omega (arith, counted, most))
+  keeping_method ty resource count address no_expr raw some most [] k counted = keeping_goes AreWords [] tt
+  keeping_method ty resource count address no_expr raw some most (at ∷ words ∷ operands) k counted = keeping_goes AreWords [] tt
+  keeping_method ty resource count address (some_expr value) raw some most [] k counted = keeping_goes AreWords [] tt
+  keeping_method ty resource count address (some_expr value) raw some most (at ∷ []) k counted = keeping_goes AreWords [] tt
+  keeping_method ty resource count address (some_expr value) raw some most (at ∷ words ∷ others ∷ operands) k counted = keeping_goes AreWords [] tt
 
   module _ (callees : (number : ℕ) → KeepsCallee (Proper c) (slice_index_or c.callees number no_callee)) where
-    pub keeping_acts : (ty : Ty) (form : Form) (operands : List (List ℕ)) → IsForm c.scope ty form → AllWords operands → Keeping (Proper c) AreWords (acts c ty form operands)
-    keeping_acts ty (literal_form word) [] h k = keeping_goes AreWords _ (literal_is ty word h, tt)
-    keeping_acts ty (read_form place) (indexes ∷ []) h k = keeping_read_place c constants slots place h.0 indexes k.0
-    keeping_acts ty (write_form to op common value old) (indexes ∷ words ∷ []) h k = keeping_assigns to h.0 op common old indexes words k.0 k.1.0
-    keeping_acts ty (convert_form value) (words ∷ []) h k = keeping_goes AreWords _ (converted_words (type_of value) ty words k.0)
-    keeping_acts ty (unary_form op value) (words ∷ []) h k = keeping_goes AreWords _ (every_to Is32Bits Is32Bits (unary_word op) (unary_is op) words k.0)
-    keeping_acts ty (binary_form op left right) (words ∷ others ∷ []) h k =
+    pub keeping_acts : (ty : Ty) (form : Form) (operands : List (List ℕ)) → IsForm c.scope ty form → AllWords operands → HasCount form operands → Keeping (Proper c) AreWords (acts c ty form operands)
+    keeping_acts ty (literal_form word) [] h k counted = keeping_goes AreWords _ (literal_is ty word h, tt)
+    keeping_acts ty (read_form place) (indexes ∷ []) h k counted = keeping_read_place c constants slots place h.0 indexes k.0
+    keeping_acts ty (write_form to op common value old) (indexes ∷ words ∷ []) h k counted = keeping_assigns to h.0 op common old indexes words k.0 k.1.0
+    keeping_acts ty (convert_form value) (words ∷ []) h k counted = keeping_goes AreWords _ (converted_words (type_of value) ty words k.0)
+    keeping_acts ty (unary_form op value) (words ∷ []) h k counted = keeping_goes AreWords _ (every_to Is32Bits Is32Bits (unary_word op) (unary_is op) words k.0)
+    keeping_acts ty (binary_form op left right) (words ∷ others ∷ []) h k counted =
         keeping_gives AreWords (binary_words op (component_kind (type_of left)) words others) (binary_all op (component_kind (type_of left)) words others k.0 k.1.0)
-    keeping_acts ty (choose_form cond consequent alternative) (truths ∷ words ∷ others ∷ []) h k =
+    keeping_acts ty (choose_form cond consequent alternative) (truths ∷ words ∷ others ∷ []) h k counted =
         keeping_goes AreWords _ (every_map_3 Is32Bits Is32Bits Is32Bits Is32Bits chosen_word chosen_is truths words others k.0 k.1.0 k.1.1.0)
-    keeping_acts ty (build_form parts) operands h k = keeping_goes AreWords _ (every_concat Is32Bits operands k)
-    keeping_acts ty (pick_form value parts) (words ∷ []) h k =
+    keeping_acts ty (build_form parts) operands h k counted = keeping_goes AreWords _ (every_concat Is32Bits operands k)
+    keeping_acts ty (pick_form value parts) (words ∷ []) h k counted =
         keeping_goes AreWords _ (picked_are c.scope.structs (reached c.scope.structs (start_of (type_of value)) parts (literal_indexes parts)) words k.0)
-    keeping_acts ty (call_form function args) operands h k = keeping_calls (callee_params (slice_get c.scope.functions function)) args h.1 (slice_index_or c.callees function no_callee) (callees function) operands k
-    keeping_acts ty (intrinsic_form number args) operands h k = keeping_worked c (work_of number) (works_on_words number) ty operands k
-    keeping_acts ty (method_form resource count address value) operands h k = keeping_method ty resource count address value h.0 operands k
-    keeping_acts ty (atomic_form target kind compare value original) (indexes ∷ compared ∷ words ∷ original_indexes ∷ []) h k =
+    keeping_acts ty (call_form function args) operands h k counted = keeping_calls (callee_params (slice_get c.scope.functions function)) args h.1 (slice_index_or c.callees function no_callee) (callees function) operands k
+    keeping_acts ty (intrinsic_form number args) operands h k counted = keeping_worked c (work_of number) (works_on_words number) ty operands k
+    keeping_acts ty (method_form resource count address value) operands h k counted = keeping_method ty resource count address value h.0 h.1 h.2 operands k counted
+    keeping_acts ty (atomic_form target kind compare value original) (indexes ∷ compared ∷ words ∷ original_indexes ∷ []) h k counted =
         keeping_after Is32Bits AreWords _ _ (keeping_atomic_original (type_of value) target h.1 kind indexes (slice_index compared 0) (slice_index words 0) k.0 (word_at compared 0 k.1.0) (word_at words 0 k.1.1.0)) (λ before b.
         keeping_no_value AreWords _ (keeping_write_if target kind original h.5 original_indexes (before ∷ []) k.1.1.1.0 (b, tt)))
-    keeping_acts ty form operands h k = keeping_goes AreWords [] tt
+    keeping_acts ty form operands h k counted = keeping_goes AreWords [] tt

@@ -1,8 +1,9 @@
 -- Parts of a run that keep to words: from variables and events of words of 32 bits they come to such ones.
-use Rattle.std.proofs.Common.{◌≡◌, refl, ◌<◌, ℕ, zero, suc, Bool, true, false, List, [], ◌∷◌, ◌++◌, Result, Ok, Err}
+use Rattle.std.proofs.Common.{◌≡◌, refl, sym, subst, ◌<◌, ℕ, zero, suc, Bool, true, false, List, [], ◌∷◌, ◌++◌, Option, None, Some, Result, Ok, Err}
 use Rattle.std.specs.Option.{ok_or}
 use Rattle.std.specs.Prelude.{if◌then◌else◌, nat_lt, slice_get}
 use Rattle.std.proofs.lemmas.Bool.{ltb-true}
+use Rattle.lane_core.specs.declared.event.Asked.TheVariants.{Goes}
 use Rattle.lane_core.specs.declared.event.Event.{Event}
 use Rattle.lane_core.specs.declared.event.LaneFault.{LaneFault}
 use Rattle.lane_core.specs.declared.event.LaneFault.TheVariants.{OutOfBounds}
@@ -10,6 +11,7 @@ use Rattle.lane_core.specs.declared.event.Reply.{Reply}
 use Rattle.lane_core.specs.Replies.{reply_word}
 use Rattle.hl_source.specs.State.{Progress, State, after, alone, asks, asks_word, each, ends_at, faults, first_then, gives, goes_with, joined, no_value, out_of_turns}
 use Rattle.hl_source.specs.Memory.{within, word_of}
+use Rattle.typed_laws.specs.Fitting.{Yields}
 use Rattle.event_laws.specs.Laws.{Every, HoldsOfRun, Is32Bits}
 use Rattle.event_laws.proofs.Lists.{AllWords, AreWords, every_append}
 use Rattle.event_laws.proofs.WordLemmas.{wrapped_is}
@@ -118,3 +120,11 @@ keeping_words_of words offsets h = keeping_each_any Is32Bits (word_of words) (λ
     got [] offset h = tt
     got (word ∷ words) zero h = h.0
     got (word ∷ words) (suc offset) h = got words offset h.1
+
+-- what is known of what a part gives
+keeps_with : (E : Event → Type 0) {A : Type 0} (P Q : A → Type 0) (part : Progress A) → Keeps E P part → Yields Q part → Keeps E (λ a. P a × Q a) part
+keeps_with E P Q (goes_with a s) h y = ((h.0, y), h.1)
+keeps_with E P Q (ends_at run) h y = h
+
+pub keeping_with : {E : Event → Type 0} {A : Type 0} (P Q : A → Type 0) (part : State → Progress A) → Keeping E P part → ((s : State) → Yields Q (part s)) → Keeping E (λ a. P a × Q a) part
+keeping_with P Q part h y = record { keeps = λ s sound. keeps_with _ P Q (part s) (h.keeps s sound) (y s) }

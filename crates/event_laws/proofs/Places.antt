@@ -1,6 +1,8 @@
 -- Places are read and written with words.
-use Rattle.std.proofs.Common.{◌≡◌, refl, ◌<◌, arith, ℕ, List, [], ◌∷◌, ◌++◌, drop, length, take, Option, None, Some}
-use Rattle.std.specs.Prelude.{replicate, slice_get, slice_set, unwrap_or, zip}
+use Rattle.std.proofs.Common.{◌≡◌, refl, subst, ◌<◌, ◌≤◌, ◌+◌, ◌*◌, zero, suc, div-add-mod', arith, ℕ, List, [], ◌∷◌, ◌++◌, drop, length, map, take, Option, None, Some}
+use Rattle.std.specs.Prelude.{replicate, slice_get, slice_index, slice_set, unwrap_or, zip}
+use Rattle.std.specs.Int.{div_ceil}
+use Rattle.std.proofs.lemmas.List.{length-drop, length-take}
 use Rattle.std.specs.Option.{option_map, option_and_then}
 use Rattle.std.proofs.lemmas.Option.{none-some}
 use Rattle.std.specs.List.{concat, range_with_len}
@@ -13,17 +15,17 @@ use Rattle.lane_core.specs.Replies.{reply_word, reply_words}
 use Rattle.lane_core.specs.Words.{wrapping_add}
 use Rattle.hl_meaning.specs.Trees.{Location, PathParts, Root, a_location, constant_root, element_root, shared_root, variable_root}
 use Rattle.hl_meaning.specs.Types.{Ty, void_type}
-use Rattle.hl_meaning.specs.Programs.{Resource, Variable}
-use Rattle.hl_meaning.specs.Places.{element_type, path_type}
+use Rattle.hl_meaning.specs.Programs.{Resource, StructDef, Variable}
+use Rattle.hl_meaning.specs.Places.{element_type, path_type, reached_type}
 use Rattle.hl_meaning.specs.WellFormed.{IsPlace}
 use Rattle.hl_meaning.proofs.LayoutLemmas.{words-void}
 use Rattle.hl_meaning.specs.Layout.{kinds_of, words_of}
 use Rattle.hl_source.specs.Operations.{map_2, picked, word_as}
 use Rattle.hl_source.specs.State.{Context, Progress, State, asks, asks_word, each, goes_with}
-use Rattle.hl_source.specs.Offsets.{Holder, Reached, holder_of, in_constant, in_element, in_shared, in_variable, place_of, slot_of}
+use Rattle.hl_source.specs.Offsets.{Holder, Reached, holder_of, in_constant, in_element, in_shared, in_variable, indexes_of_steps, place_of, slot_of}
 use Rattle.hl_source.specs.Memory.{atomic_address, atomic_word, buffer_atomic, byte_offset, cell, constant_words, load_four, load_words, pieces, read_place, read_reached, read_words, shared_atomic, shared_size, store_four, store_words, within, word_of, word_offsets, write_letters, write_place, write_variable_word, write_words}
-use Rattle.event_laws.specs.Laws.{Every, HasWords, Is32Bits, IsCell, IsSlot, Names}
-use Rattle.event_laws.proofs.Lists.{AllWords, AreWords, every_append, every_concat, every_drop, every_get, every_made, every_replicate, every_set, every_take, every_zip, word_at, zero_is}
+use Rattle.event_laws.specs.Laws.{Every, HasWords, Is32Bits, IsCell, IsSlot, Names, Stores}
+use Rattle.event_laws.proofs.Lists.{AllWords, AreWords, every_append, every_at, every_concat, every_drop, every_get, every_made, every_replicate, every_set, every_take, every_to, every_zip, word_at, zero_is}
 use Rattle.event_laws.proofs.WordLemmas.{wrapped_is}
 use Rattle.event_laws.proofs.Operators.{all_read_as, picked_words_are}
 use Rattle.event_laws.proofs.Keeping.{Any, Keeping, keeping_asks, keeping_asks_word, keeping_each, keeping_each_any, keeping_goes, keeping_no_value, keeping_of_variables, keeping_sets, keeping_then, keeping_within_low, keeping_within, keeping_words_of}
@@ -34,17 +36,42 @@ Proper c event = HasWords event × Names c.scope.structs c.scope.shared c.slots 
 
 -- buffers
 
+stored : (words : List ℕ) → 1 ≤ length words → length words ≤ 4 → Stores (length words) (take 4 (words ++ replicate 4 0))
+stored [] some most = absurd (omega (arith, some))
+stored (a ∷ []) some most = record { some = some; most = most; places = refl; zeros = (refl, (refl, (refl, tt))) }
+stored (a ∷ b ∷ []) some most = record { some = some; most = most; places = refl; zeros = (refl, (refl, tt)) }
+stored (a ∷ b ∷ d ∷ []) some most = record { some = some; most = most; places = refl; zeros = (refl, tt) }
+stored (a ∷ b ∷ d ∷ e ∷ []) some most = record { some = some; most = most; places = refl; zeros = tt }
+stored (a ∷ b ∷ d ∷ e ∷ f ∷ words) some most = absurd (omega (arith, most))
+
+-- a piece begins at a word that is there
+ranged : (top a n : ℕ) → a + n ≤ top → Every (λ k. k < top) (range_with_len a n)
+ranged top a zero h = tt
+ranged top a (suc n) h = (omega (arith, h), ranged top (a + 1) n (omega (arith, h)))
+
+piece_below : (count k : ℕ) → k < div_ceil count 4 → 4 * k < count
+piece_below count k low = omega (arith, low, div-add-mod' count 4)
+
+pieces_below : (count : ℕ) → Every (λ piece. piece < count) (pieces count)
+pieces_below count = every_to (λ k. k < div_ceil count 4) (λ piece. piece < count) (λ piece. 4 * piece) (piece_below count) (range_with_len 0 (div_ceil count 4)) (ranged (div_ceil count 4) 0 (div_ceil count 4) (omega arith))
+
+some_piece : (words : List ℕ) (piece : ℕ) → piece < length words → 1 ≤ length (take 4 (drop piece words))
+some_piece words piece low = omega (arith, length-take 4 (drop piece words), length-drop piece words, low)
+
+most_piece : (words : List ℕ) (piece : ℕ) → length (take 4 (drop piece words)) ≤ 4
+most_piece words piece = omega (arith, length-take 4 (drop piece words))
+
 pub reply_words_are : (count : ℕ) (reply : Reply) → AreWords (reply_words count reply)
 reply_words_are count reply = every_made Is32Bits (reply_word reply) (λ number. wrapped_is _) (range_with_len 0 count)
 
 pub keeping_load_four : (c : Context) (slot : Slot) → IsSlot c.slots slot → (index at : ℕ) → Is32Bits index → Is32Bits at → Keeping (Proper c) AreWords (load_four slot index at)
 keeping_load_four c slot there index at i a = keeping_then Any AreWords (asks (BufferLoad slot index at)) (reply_words 4) (keeping_asks (BufferLoad slot index at) ((i, (a, tt)), there)) (λ reply _. reply_words_are 4 reply)
 
-pub keeping_store_four : (c : Context) (slot : Slot) → IsSlot c.slots slot → (index at : ℕ) (words : List ℕ) → Is32Bits index → Is32Bits at → AreWords words → Keeping (Proper c) AreWords (store_four slot index at words)
-keeping_store_four c slot there index at words i a h =
+pub keeping_store_four : (c : Context) (slot : Slot) → IsSlot c.slots slot → (index at : ℕ) (words : List ℕ) → Is32Bits index → Is32Bits at → AreWords words → 1 ≤ length words → length words ≤ 4 → Keeping (Proper c) AreWords (store_four slot index at words)
+keeping_store_four c slot there index at words i a h some most =
     keeping_no_value Any (asks (BufferStore slot index at (length words) (take 4 (words ++ replicate 4 0))))
     (keeping_asks (BufferStore slot index at (length words) (take 4 (words ++ replicate 4 0)))
-    ((i, (a, every_take Is32Bits 4 (words ++ replicate 4 0) (every_append Is32Bits words (replicate 4 0) h (every_replicate Is32Bits 4 0 zero_is)))), there))
+    ((i, (a, every_take Is32Bits 4 (words ++ replicate 4 0) (every_append Is32Bits words (replicate 4 0) h (every_replicate Is32Bits 4 0 zero_is)))), (there, stored words some most)))
 
 keeping_load_words : (c : Context) (slot : Slot) → IsSlot c.slots slot → (index offset count : ℕ) → Is32Bits index → Keeping (Proper c) AreWords (load_words slot index offset count)
 keeping_load_words c slot there index offset count i =
@@ -55,8 +82,9 @@ keeping_load_words c slot there index offset count i =
 keeping_store_words : (c : Context) (slot : Slot) → IsSlot c.slots slot → (index offset : ℕ) (words : List ℕ) → Is32Bits index → AreWords words → Keeping (Proper c) AreWords (store_words slot index offset words)
 keeping_store_words c slot there index offset words i h =
     keeping_no_value AllWords (each (λ piece. store_four slot index (byte_offset offset piece) (take 4 (drop piece words))) (pieces (length words)))
-    (keeping_each_any AreWords (λ piece. store_four slot index (byte_offset offset piece) (take 4 (drop piece words)))
-    (λ piece. keeping_store_four c slot there index (byte_offset offset piece) (take 4 (drop piece words)) i (wrapped_is _) (every_take Is32Bits 4 (drop piece words) (every_drop Is32Bits piece words h))) (pieces (length words)))
+    (keeping_each (λ piece. piece < length words) AreWords (λ piece. store_four slot index (byte_offset offset piece) (take 4 (drop piece words)))
+    (λ piece low. keeping_store_four c slot there index (byte_offset offset piece) (take 4 (drop piece words)) i (wrapped_is _) (every_take Is32Bits 4 (drop piece words) (every_drop Is32Bits piece words h)) (some_piece words piece low) (most_piece words piece))
+    (pieces (length words)) (pieces_below (length words)))
 
 -- words
 

@@ -1,6 +1,6 @@
 -- The lane of a well-formed program keeps to words.
-use Rattle.std.proofs.Common.{◌≡◌, ◌∙◌, refl, sym, ap, subst, ℕ, suc, zero, false, List, [], ◌∷◌, ◌++◌, drop, map, Option, None, Some, arith, length}
-use Rattle.std.specs.Prelude.{slice_get, slice_index_or, unwrap_or}
+use Rattle.std.proofs.Common.{◌≡◌, ◌∙◌, refl, sym, ap, subst, ℕ, suc, zero, false, List, [], ◌∷◌, ◌++◌, drop, map, Option, None, Some, arith, length, get_or}
+use Rattle.std.specs.Prelude.{slice_get, slice_index_or, unwrap_or, take}
 use Rattle.std.specs.Option.{option_map_or}
 use Rattle.std.proofs.lemmas.List.{append-nil, append_assoc}
 use Rattle.std.proofs.lemmas.Option.{none-some, same_Some, unwrap_or-slice_get}
@@ -9,26 +9,30 @@ use Rattle.lane_core.specs.declared.event.Asked.TheVariants.{Asks, Ended, Fault,
 use Rattle.lane_core.specs.declared.event.Event.{Event}
 use Rattle.lane_core.specs.declared.event.Slot.{Slot}
 use Rattle.lane_core.specs.declared.event.Reply.{Reply}
-use Rattle.lane_core.specs.Inputs.{coordinates_of}
-use Rattle.lane_core.specs.Lane.{Lane, Run, first_exchange}
+use Rattle.lane_core.specs.Inputs.{components, coordinates_of}
+use Rattle.lane_core.specs.Lane.{Exchange, Lane, Run, first_exchange}
 use Rattle.lane_core.specs.Words.{wrapped}
+use Rattle.hl_meaning.specs.declared.program.Parameter.{Parameter}
 use Rattle.hl_meaning.specs.declared.ty.Kind.{Kind}
 use Rattle.hl_meaning.specs.Types.{component_count, scalar_type, void_type}
 use Rattle.hl_meaning.specs.Programs.{Constant, FunctionDef, Program, Resource, Variable}
 use Rattle.hl_meaning.specs.Slots.{slot_after, slots_after, slots_of}
 use Rattle.hl_meaning.specs.Layout.{kinds_of, words_of}
 use Rattle.hl_meaning.specs.Places.{variable_type}
-use Rattle.hl_meaning.specs.WellFormed.{HoldWords, IsConstant, IsWellFormed}
+use Rattle.hl_meaning.specs.WellFormed.{HoldWords, IsConstant, IsFunction, IsWellFormed}
 use Rattle.hl_source.specs.State.{Callee, Context, Progress, after, ends_at, goes_with}
-use Rattle.hl_source.specs.Memory.{zeros_of}
+use Rattle.hl_source.specs.Memory.{constant_words, zeros_of}
 use Rattle.hl_source.specs.Expressions.{no_callee}
 use Rattle.hl_source.specs.SourceLane.{callee_of, callees_after, context_of, entry_of, entry_run, first_state, input_words, inputs, returned_value, semantic_components, source_lane}
 use Rattle.hl_source.specs.Statements.{Leaving, at_end, by_break, by_continue, by_return, does_all}
+use Rattle.typed_laws.proofs.Functions.{AllGiving, all_giving, callees_giving, giving_length, sound_in}
+use Rattle.typed_laws.proofs.Sound.{CalleesFit}
 use Rattle.event_laws.specs.Laws.{EventsHaveWords, EventsNameWhatIsThere, Every, HasWords, HoldsAsked, HoldsOfRun, Is32Bits, IsSlot, Names}
 use Rattle.event_laws.proofs.Lists.{AllWords, AreWords, every_append, every_at, every_from_all, every_made, every_replicate, every_take, zero_is}
 use Rattle.event_laws.proofs.WordLemmas.{wrapped_is}
-use Rattle.event_laws.proofs.Keeping.{Keeps, Keeping, keeping_then}
+use Rattle.event_laws.proofs.Keeping.{Keeps, Keeping, keeping_then, keeps_after, keeping_goes}
 use Rattle.event_laws.proofs.Forms.{KeepsCallee, keeps_no_callee, literal_is}
+use Rattle.event_laws.proofs.Places.{HasConstants}
 use Rattle.event_laws.proofs.Statements.{LeavesWords, keeping_does_all}
 
 -- constants
@@ -89,8 +93,8 @@ module _ (p : Program) (well : IsWellFormed p) (lane : Lane) (n : ℕ) where
   zeros_are : (c : Context) (variables : List Variable) → AllWords (map (λ v. zeros_of c v.ty) variables)
   zeros_are c variables = every_made AreWords (λ v. zeros_of c v.ty) (λ v. every_replicate Is32Bits (words_of c.scope.structs v.ty) 0 zero_is) variables
 
-  callee_keeps : (earlier : List Callee) → Every (KeepsCallee here) earlier → (f : FunctionDef) → slice_get p.functions (length earlier) ≡ Some f → (KeepsCallee here) (callee_of (context_of p lane earlier f) n f)
-  callee_keeps earlier h f is parameters x words events =
+  callee_keeps : (earlier : List Callee) → Every (KeepsCallee here) earlier → (f : FunctionDef) → slice_get p.functions (length earlier) ≡ Some f → CalleesFit (context_of p lane earlier f) → (KeepsCallee here) (callee_of (context_of p lane earlier f) n f)
+  callee_keeps earlier h f is fit parameters x words events =
       body.keeps (first_state c f parameters x) (every_append AreWords parameters (map (λ v. zeros_of c v.ty) (drop (length f.parameters) f.variables)) words (zeros_are c (drop (length f.parameters) f.variables)), events)
     where
       c : Context
@@ -98,20 +102,22 @@ module _ (p : Program) (well : IsWellFormed p) (lane : Lane) (n : ℕ) where
 
       body : Keeping here AreWords (λ s. after (does_all c n f.body s) (λ leaving s'. goes_with (returned_value leaving) s'))
       body = keeping_then LeavesWords AreWords (does_all c n f.body) returned_value
-          (keeping_does_all c (constant_at p.constants all_constants) (λ resource r got. slot_there p.resources [] [] p.resources refl resource r got (record { class = 0; space = 0; register = 0 })) (λ number. every_at (KeepsCallee here) earlier number no_callee h (keeps_no_callee here)) n false f.body (well.functions (length earlier) f is).body) returned_words
+          (keeping_does_all c (constant_at p.constants all_constants) (λ resource r got. slot_there p.resources [] [] p.resources refl resource r got (record { class = 0; space = 0; register = 0 })) (λ number. every_at (KeepsCallee here) earlier number no_callee h (keeps_no_callee here)) (λ e well_formed s. (sound_in p well lane n earlier f fit e well_formed).fits s) n false f.body (well.functions (length earlier) f is).body) returned_words
 
-  callees_keep : (earlier : List Callee) → Every (KeepsCallee here) earlier → (front functions : List FunctionDef) → length earlier ≡ length front → front ++ functions ≡ p.functions → Every (KeepsCallee here) (callees_after p lane n earlier functions)
-  callees_keep earlier h front [] long are = h
-  callees_keep earlier h front (f ∷ functions) long are =
-      callees_keep (earlier ++ callee_of (context_of p lane earlier f) n f ∷ []) (every_append (KeepsCallee here) earlier (callee_of (context_of p lane earlier f) n f ∷ []) h (callee_keeps earlier h f f_is, tt))
-      (front ++ f ∷ []) functions (one_longer earlier (callee_of (context_of p lane earlier f) n f) front f long) (append_assoc front (f ∷ []) functions ∙ are)
+  callees_keep : (earlier : List Callee) → Every (KeepsCallee here) earlier → (front functions : List FunctionDef) → AllGiving p.structs front earlier → front ++ functions ≡ p.functions →
+      Every (KeepsCallee here) (callees_after p lane n earlier functions)
+  callees_keep earlier h front [] all are = h
+  callees_keep earlier h front (f ∷ functions) all are =
+      callees_keep (earlier ++ callee_of (context_of p lane earlier f) n f ∷ [])
+      (every_append (KeepsCallee here) earlier (callee_of (context_of p lane earlier f) n f ∷ []) h (callee_keeps earlier h f f_is (callees_giving p lane front (f ∷ functions) earlier f all (sym are)), tt))
+      (front ++ f ∷ []) functions (all_giving p well lane n front earlier (f ∷ []) functions all (sym are)) (append_assoc front (f ∷ []) functions ∙ are)
     where
       f_is : slice_get p.functions (length earlier) ≡ Some f
-      f_is = subst (λ fs. slice_get fs (length earlier) ≡ Some f) are (subst (λ number. slice_get (front ++ f ∷ functions) number ≡ Some f) (sym long) (got_behind front f functions))
+      f_is = subst (λ fs. slice_get fs (length earlier) ≡ Some f) are (subst (λ number. slice_get (front ++ f ∷ functions) number ≡ Some f) (sym (giving_length p.structs front earlier all)) (got_behind front f functions))
 
   entry_keeps : (KeepsCallee here) (entry_of p lane n)
   entry_keeps = subst (KeepsCallee here) (sym (unwrap_or-slice_get (callees_after p lane n [] p.functions) p.entry no_callee))
-      (every_at (KeepsCallee here) (callees_after p lane n [] p.functions) p.entry no_callee (callees_keep [] tt [] p.functions refl refl) (keeps_no_callee here))
+      (every_at (KeepsCallee here) (callees_after p lane n [] p.functions) p.entry no_callee (callees_keep [] tt [] p.functions tt refl) (keeps_no_callee here))
 
   inputs_are : (entry : Option FunctionDef) → AllWords (inputs p lane entry)
   inputs_are None = tt

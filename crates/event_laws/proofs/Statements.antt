@@ -1,5 +1,5 @@
 -- Well-formed statements keep to words.
-use Rattle.std.proofs.Common.{ℕ, zero, suc, Bool, true, false, [], map, Option, None, Some}
+use Rattle.std.proofs.Common.{ℕ, zero, suc, Bool, true, false, List, [], map, Option, None, Some}
 use Rattle.std.specs.Prelude.{if◌then◌else◌, slice_get, slice_index, slice_index_or, slice_set, unwrap_or}
 use Rattle.lane_core.specs.declared.event.Event.{Event}
 use Rattle.lane_core.specs.Words.{holds}
@@ -8,12 +8,12 @@ use Rattle.hl_meaning.specs.WellFormed.{AreStmts, IsCondition, IsConditionIf, Is
 use Rattle.hl_source.specs.State.{Context}
 use Rattle.hl_source.specs.Expressions.{no_callee}
 use Rattle.hl_source.specs.Statements.{Doing, Leaving, after_body, after_statement, after_turn, at_end, by_break, by_continue, by_return, choice, computes, computes_if, condition, condition_if, declares, do_turn, does, does_all, does_if, for_turn, returns, turns}
-use Rattle.event_laws.proofs.Lists.{AreWords, every_made, every_set, zero_is}
+use Rattle.event_laws.proofs.Lists.{AreWords, every_get, every_made, every_set, zero_is}
 use Rattle.event_laws.specs.Laws.{Is32Bits}
 use Rattle.event_laws.proofs.Keeping.{Any, Keeping, keeping_after, keeping_goes, keeping_out_of_turns, keeping_sets, keeping_then}
 use Rattle.event_laws.proofs.Places.{HasConstants, HasSlots, Proper}
 use Rattle.event_laws.proofs.Forms.{KeepsCallee}
-use Rattle.event_laws.proofs.Expressions.{keeping_evaluates}
+use Rattle.event_laws.proofs.Expressions.{IsTyped, keeping_evaluates}
 
 -- a value that is returned has words
 abbrev pub LeavesWords : Leaving → Type 0
@@ -48,16 +48,16 @@ keeping_turns : {E : Event → Type 0} (turn : Doing) → Keeping E LeavesWords 
 keeping_turns turn h zero = keeping_out_of_turns LeavesWords
 keeping_turns turn h (suc n) = keeping_after LeavesWords LeavesWords turn (after_turn (turns n turn)) h (keeping_after_turn (turns n turn) (keeping_turns turn h n))
 
-module _ (c : Context) (constants : HasConstants c) (slots : HasSlots c) (callees : (number : ℕ) → KeepsCallee (Proper c) (slice_index_or c.callees number no_callee)) where
+module _ (c : Context) (constants : HasConstants c) (slots : HasSlots c) (callees : (number : ℕ) → KeepsCallee (Proper c) (slice_index_or c.callees number no_callee)) (typed : IsTyped c) where
   keeping_condition : (cond : Expr) → IsCondition c.scope cond → Keeping (Proper c) Any (condition c cond)
-  keeping_condition cond h = keeping_then AreWords Any _ (λ words. holds (slice_index words 0)) (keeping_evaluates c constants slots callees cond h.0) (λ words k. tt)
+  keeping_condition cond h = keeping_then AreWords Any _ (λ words. holds (slice_index words 0)) (keeping_evaluates c constants slots callees typed cond h.0) (λ words k. tt)
 
   keeping_condition_if : (cond : Option Expr) → IsConditionIf c.scope cond → Keeping (Proper c) Any (condition_if c cond)
   keeping_condition_if None h = keeping_goes Any true tt
   keeping_condition_if (Some cond) h = keeping_condition cond h
 
   keeping_computes : (value : Expr) → IsExpr c.scope value → Keeping (Proper c) LeavesWords (computes c value)
-  keeping_computes value h = keeping_then AreWords LeavesWords _ (λ _. at_end) (keeping_evaluates c constants slots callees value h) (λ words k. tt)
+  keeping_computes value h = keeping_then AreWords LeavesWords _ (λ _. at_end) (keeping_evaluates c constants slots callees typed value h) (λ words k. tt)
 
   keeping_computes_if : (value : Option Expr) → IsExprIf c.scope value → Keeping (Proper c) LeavesWords (computes_if c value)
   keeping_computes_if None h = keeping_goes LeavesWords at_end tt
@@ -68,12 +68,12 @@ module _ (c : Context) (constants : HasConstants c) (slots : HasSlots c) (callee
       keeping_sets LeavesWords at_end tt (λ variables. slice_set variables variable (map (λ _. 0) (unwrap_or (slice_get variables variable) [])))
       (λ variables all. every_set AreWords variables variable (map (λ _. 0) (unwrap_or (slice_get variables variable) [])) all (every_made Is32Bits (λ _. 0) (λ _. zero_is) (unwrap_or (slice_get variables variable) [])))
   keeping_declares variable (Some init) h =
-      keeping_after AreWords LeavesWords _ _ (keeping_evaluates c constants slots callees init h.0) (λ words k. keeping_sets LeavesWords at_end tt (λ variables. slice_set variables variable words)
+      keeping_after AreWords LeavesWords _ _ (keeping_evaluates c constants slots callees typed init h.0) (λ words k. keeping_sets LeavesWords at_end tt (λ variables. slice_set variables variable words)
       (λ variables all. every_set AreWords variables variable words all k))
 
   keeping_returns : (value : Option Expr) → IsReturn c.scope value → Keeping (Proper c) LeavesWords (returns c value)
   keeping_returns None h = keeping_goes LeavesWords (by_return []) tt
-  keeping_returns (Some value) h = keeping_then AreWords LeavesWords _ by_return (keeping_evaluates c constants slots callees value h.0) (λ words k. k)
+  keeping_returns (Some value) h = keeping_then AreWords LeavesWords _ by_return (keeping_evaluates c constants slots callees typed value h.0) (λ words k. k)
 
   keeping_for_turn : (cond : Option Expr) → IsConditionIf c.scope cond → (body : Doing) → Keeping (Proper c) LeavesWords body → (step : Option Expr) → IsExprIf c.scope step → Keeping (Proper c) LeavesWords (for_turn c cond body step)
   keeping_for_turn cond h body k step l =

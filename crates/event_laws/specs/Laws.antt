@@ -1,5 +1,5 @@
 -- What holds of the events that a lane of a well-formed program asks.
-use Rattle.std.specs.Prelude.{◌≡◌, ℕ, ◌^◌, ◌<◌, List, [], ◌∷◌, Some, IsTrue, slice_get}
+use Rattle.std.specs.Prelude.{◌≡◌, ℕ, ◌^◌, ◌<◌, ◌≤◌, List, [], ◌∷◌, Some, IsTrue, drop, length, slice_get}
 use Rattle.lane_core.specs.declared.event.Asked.{Asked}
 use Rattle.lane_core.specs.declared.event.Asked.TheVariants.{Asks, Ended, Fault, Goes}
 use Rattle.lane_core.specs.declared.event.Cell.{Cell}
@@ -70,6 +70,13 @@ IsSlot slots slot = (resource : ℕ) × (slice_get slots resource ≡ Some slot)
 abbrev pub IsCell : List StructDef → (shared : List Variable) → Cell → Type 0
 IsCell structs shared target = (v : Variable) × (slice_get shared target.variable ≡ Some v) × (target.word < words_of structs v.ty)
 
+-- From one to four words are stored, in four places: those behind them hold 0.
+pub record Stores (count : ℕ) (words : List ℕ) : Type 0 where
+  pub some : 1 ≤ count
+  pub most : count ≤ 4
+  pub places : length words ≡ 4
+  pub zeros : Every (λ word. word ≡ 0) (drop count words)
+
 -- the modes of the barriers of the source
 abbrev pub barrier_modes : List ℕ
 barrier_modes = 2 ∷ 3 ∷ 8 ∷ 9 ∷ 10 ∷ 11 ∷ []
@@ -79,11 +86,11 @@ abbrev pub NamesLane : WaveKind → ℕ → Type 0
 NamesLane ReadLaneAt lane = Unit {0}
 NamesLane _ lane = lane ≡ 0
 
--- An event names buffers and words of groupshared variables that are there, and
--- is one of the source's barriers or wave operations.
+-- An event names buffers and words of groupshared variables that are there, stores from one to
+-- four words to a buffer, and is one of the source's barriers or wave operations.
 abbrev pub Names : List StructDef → (shared : List Variable) → List Slot → Event → Type 0
 Names structs shared slots (BufferLoad slot index offset) = IsSlot slots slot
-Names structs shared slots (BufferStore slot index offset count words) = IsSlot slots slot
+Names structs shared slots (BufferStore slot index offset count words) = IsSlot slots slot × Stores count words
 Names structs shared slots (BufferAtomic slot index offset kind word) = IsSlot slots slot
 Names structs shared slots (BufferCompareExchange slot index offset compare word) = IsSlot slots slot
 Names structs shared slots (SharedLoad target) = IsCell structs shared target

@@ -7,8 +7,8 @@ pub fn events_have_words()
     ensures { EventsHaveWords }
 {}
 
-/// Each event names a buffer or a word of a groupshared variable that is there, or is a barrier or a wave operation of the
-/// source.
+/// Each event names a buffer or a word of a groupshared variable that is there, and stores from one to four words to a
+/// buffer, or is a barrier or a wave operation of the source.
 pub fn events_name_what_is_there()
     ensures { EventsNameWhatIsThere }
 {}

@@ -37,10 +37,7 @@ fn module_of_two_functions(rt: &HostRuntime) -> Result<Module, Fail> {
             // CONSTANTS: SETTYPE, and two INTEGERs
             (11, &[(1, &[0]), (4, &[3]), (4, &[14])]),
             // METADATA: VALUE, NODE, NAME and NAMED_NODE
-            (
-                15,
-                &[(2, &[0, 3]), (3, &[1, 0]), (4, &[120]), (10, &[1])],
-            ),
+            (15, &[(2, &[0, 3]), (3, &[1, 0]), (4, &[120]), (10, &[1])]),
             // VALUE_SYMTAB: two ENTRYs
             (14, &[(1, &[1, 103]), (1, &[0, 102])]),
             // FUNCTION: DECLAREBLOCKS, CALL and RET

@@ -3,11 +3,11 @@
 ghost use Rattle.std.specs.Prelude.{◌≡◌, ◌^◌, ◌<◌, [], ◌∷◌, length, IfOk};
 ghost use Rattle.bc_stream.specs.Blocks.{a_block, a_record, contents_of, no_more};
 
+use base_core::{NoMemory, Sequence};
 use bc_stream::{
     BlockList, Part, StreamFault, Values, no_blocks, no_parts, push_entry, push_outermost,
     read_back, read_blocks, write_blocks,
 };
-use base_core::{NoMemory, Sequence};
 use std::alloc::Global;
 use std::test::Fail;
 

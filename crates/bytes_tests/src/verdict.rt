@@ -1,7 +1,7 @@
 //! A module without tables: the least broken rule, and the module back.
 
-use dx_validate::{Invalid, validate};
 use base_core::Sequence;
+use dx_validate::{Invalid, validate};
 use ir_core::{Module, Spot};
 use std::test::Fail;
 

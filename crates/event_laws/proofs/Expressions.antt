@@ -64,7 +64,6 @@ module _ (c : Context) (constants : HasConstants c) (slots : HasSlots c) (callee
       (evaluates c value s1) (typed value h.5.2 s1)) (λ words s2 long. (words, refl, long)))
       (λ more s3 one. subst (λ m. HasCount (method_form resource count address (some_expr value)) (at ∷ m)) (sym one.1) one.2))
 
-
   mutual
     pub keeping_evaluates : (e : Expr) → IsExpr c.scope e → Keeping (Proper c) AreWords (evaluates c e)
     keeping_evaluates (an_expr ty at form) h = keeping_after (λ words. AllWords words × HasCount form words) AreWords _ _ (keeping_with AllWords (HasCount form) _ (keeping_operands ty form h.1) (counted ty form h.1)) (λ words k. keeping_acts c constants slots callees ty form words h.1 k.0 k.1)

@@ -78,11 +78,115 @@ WorksOnWords (wave_at kind) = (lane : ℕ) → NamesLane kind lane
 WorksOnWords _ = Unit {0}
 
 all_work : Every WorksOnWords works
-all_work =
-    (absolute_is, (lesser_is, (greater_is, (clamped_is, ((λ kind a h. ones_is a h), ((λ kind a h. reversed_is a), ((λ kind a h. first_low_is a), (tt, (tt, ((λ kind a h. h), ((λ kind a h. h), (tt,
-    (tt, (tt, (tt, (tt, (tt, (tt, (tt, (tt, ((omega arith, refl), ((omega arith, refl), ((omega arith, refl), ((omega arith, refl),
-    ((omega arith, refl), ((omega arith, refl), (tt, (tt, (tt, (tt, (tt, (tt, (tt, ((λ lane. tt), (tt, (tt,
-    (tt, (tt, (tt, (tt, (tt, (tt, (tt, (tt, (tt, (tt, tt))))))))))))))))))))))))))))))))))))))))))))))
+all_work = (
+  absolute_is,
+  (
+    lesser_is,
+    (
+      greater_is,
+      (
+        clamped_is,
+        (
+          (λ kind a h. ones_is a h),
+          (
+            (λ kind a h. reversed_is a),
+            (
+              (λ kind a h. first_low_is a),
+              (
+                tt,
+                (
+                  tt,
+                  (
+                    (λ kind a h. h),
+                    (
+                      (λ kind a h. h),
+                      (
+                        tt,
+                        (
+                          tt,
+                          (
+                            tt,
+                            (
+                              tt,
+                              (
+                                tt,
+                                (
+                                  tt,
+                                  (
+                                    tt,
+                                    (
+                                      tt,
+                                      (
+                                        tt,
+                                        (
+                                          (omega arith, refl),
+                                          (
+                                            (omega arith, refl),
+                                            (
+                                              (omega arith, refl),
+                                              (
+                                                (omega arith, refl),
+                                                (
+                                                  (omega arith, refl),
+                                                  (
+                                                    (omega arith, refl),
+                                                    (
+                                                      tt,
+                                                      (
+                                                        tt,
+                                                        (
+                                                          tt,
+                                                          (
+                                                            tt,
+                                                            (
+                                                              tt,
+                                                              (
+                                                                tt,
+                                                                (
+                                                                  tt,
+                                                                  (
+                                                                    (λ lane. tt),
+                                                                    (
+                                                                      tt,
+                                                                      (
+                                                                        tt,
+                                                                        (tt, (tt, (tt, (tt, (tt, (tt, (tt, (tt, (tt, (tt, tt)))))))))),
+                                                                      ),
+                                                                    ),
+                                                                  ),
+                                                                ),
+                                                              ),
+                                                            ),
+                                                          ),
+                                                        ),
+                                                      ),
+                                                    ),
+                                                  ),
+                                                ),
+                                              ),
+                                            ),
+                                          ),
+                                        ),
+                                      ),
+                                    ),
+                                  ),
+                                ),
+                              ),
+                            ),
+                          ),
+                        ),
+                      ),
+                    ),
+                  ),
+                ),
+              ),
+            ),
+          ),
+        ),
+      ),
+    ),
+  ),
+)
 
 works_on_words : (number : ℕ) → WorksOnWords (work_of number)
 works_on_words number = every_get WorksOnWords works number own_form all_work tt

@@ -78,12 +78,55 @@ shift_right_is UintKind a b h k = no_greater (a / 2 ^ (b % 32)) a (div-le_self a
 shift_right_is BoolKind a b h k = no_greater (a / 2 ^ (b % 32)) a (div-le_self a (2 ^ (b % 32))) h
 
 all_compute : Every (λ o. Computes o.compute) binary_operators
-all_compute =
-    (λ kind a b h k. wrapped_is _, (λ kind a b h k. wrapped_is _, (λ kind a b h k. wrapped_is _, (quotient_is, (remainder_is,
-    (λ kind a b h k. no_greater (bit_and a b) a (and_le_l a b) h, (λ kind a b h k. or_lt 32 a b h k, (λ kind a b h k. xor_lt 32 a b h k,
-    (λ kind a b h k. wrapped_is _, (shift_right_is,
-    (λ kind a b h k. truth_is _, (λ kind a b h k. truth_is _, (λ kind a b h k. truth_is _, (λ kind a b h k. truth_is _, (λ kind a b h k. truth_is _, (λ kind a b h k. truth_is _,
-    (λ kind a b h k. truth_is _, (λ kind a b h k. truth_is _, tt))))))))))))))))))
+all_compute = (
+  λ kind a b h k. wrapped_is _,
+  (
+    λ kind a b h k. wrapped_is _,
+    (
+      λ kind a b h k. wrapped_is _,
+      (
+        quotient_is,
+        (
+          remainder_is,
+          (
+            λ kind a b h k. no_greater (bit_and a b) a (and_le_l a b) h,
+            (
+              λ kind a b h k. or_lt 32 a b h k,
+              (
+                λ kind a b h k. xor_lt 32 a b h k,
+                (
+                  λ kind a b h k. wrapped_is _,
+                  (
+                    shift_right_is,
+                    (
+                      λ kind a b h k. truth_is _,
+                      (
+                        λ kind a b h k. truth_is _,
+                        (
+                          λ kind a b h k. truth_is _,
+                          (
+                            λ kind a b h k. truth_is _,
+                            (
+                              λ kind a b h k. truth_is _,
+                              (
+                                λ kind a b h k. truth_is _,
+                                (λ kind a b h k. truth_is _, (λ kind a b h k. truth_is _, tt)),
+                              ),
+                            ),
+                          ),
+                        ),
+                      ),
+                    ),
+                  ),
+                ),
+              ),
+            ),
+          ),
+        ),
+      ),
+    ),
+  ),
+)
 
 found_here : (test : BinaryOperator → Bool) (o : BinaryOperator) (operators : List BinaryOperator) → test o ≡ true → find test (o ∷ operators) ≡ Some o
 found_here test o operators e = rw e

@@ -2,9 +2,7 @@
 use Rattle.std.proofs.Common.{◌≡◌, ◌∙◌, ap, refl, sym, subst, Bool, true, false, length, ℕ, List, [], ◌∷◌, Option, None, Some}
 use Rattle.std.specs.Prelude.{◌==◌, if◌then◌else◌, slice_get, slice_index_or}
 use Rattle.lane_core.specs.declared.event.AtomicKind.{AtomicKind}
-use Rattle.lane_core.specs.declared.event.AtomicKind.TheVariants.{Add, And, Or, Xor, IMin, IMax, UMin, UMax, Exchange}
 use Rattle.hl_meaning.specs.declared.program.Copying.{Copying}
-use Rattle.hl_meaning.specs.declared.program.Copying.TheVariants.{CopyBoth, CopyIn, CopyOut}
 use Rattle.hl_meaning.specs.declared.program.Parameter.{Parameter}
 use Rattle.hl_meaning.specs.declared.ty.Kind.TheVariants.{Uint as UintKind}
 use Rattle.hl_meaning.specs.Types.{Ty, components_type, scalar_type, vector_type}
@@ -18,7 +16,7 @@ use Rattle.typed_laws.proofs.ValueFits.{yields_after, yields_any, yields_map}
 use Rattle.hl_meaning.specs.Trees.{Arg, Args, Expr, Exprs, Form, Location, MaybeExpr, MaybeLocation, PathPart, PathParts, Root, Target, a_location, an_expr, atomic_form, binary_form, build_form, bytes_target, call_form, choose_form, constant_root, convert_form, element_root, index_part, intrinsic_form, literal_form, member_part, method_form, more_args, more_exprs, more_parts, no_args, no_expr, no_exprs, no_location, no_parts, pick_form, place_arg, place_target, read_form, shared_root, some_expr, some_location, swizzle_part, type_of, unary_form, value_arg, variable_root, write_form}
 use Rattle.hl_meaning.specs.WellFormed.{AreExprs, AreParts, ArePassed, IsCompared, IsExpr, IsForm, IsMethod, IsOriginal, IsPart, IsPassed, IsPlace, IsRoot, IsTarget, Param, callee_params}
 use Rattle.hl_source.specs.State.{Context, State, alone}
-use Rattle.hl_source.specs.Expressions.{argument_of, argument_operands, arguments, copies_in, evaluates, indexes, indexes_if, no_callee, operands, parameters_of, root_index, step_index, step_indexes, target_indexes, value_if, values, values_if}
+use Rattle.hl_source.specs.Expressions.{argument_of, argument_operands, arguments, evaluates, indexes, indexes_if, no_callee, operands, parameters_of, root_index, step_index, step_indexes, target_indexes, value_if, values, values_if}
 use Rattle.event_laws.specs.Laws.{Is32Bits}
 use Rattle.event_laws.proofs.Lists.{AllWords, AreWords}
 use Rattle.event_laws.proofs.Keeping.{Any, Keeping, keeping_with, keeping_after, keeping_alone, keeping_first_then, keeping_goes, keeping_joined, keeping_then}

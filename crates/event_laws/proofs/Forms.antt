@@ -1,7 +1,6 @@
 -- What a form does with operands of words keeps to words.
-use Rattle.std.proofs.Common.{◌≡◌, ◌≤◌, length, refl, subst, ℕ, suc, zero, Bool, true, false, List, [], ◌∷◌, Option, None, Some, take, drop, map, arith}
-use Rattle.std.specs.Prelude.{◌&&◌, IsTrue, if◌then◌else◌, slice_get, slice_index, slice_index_or, unwrap_or, count_ones}
-use Rattle.std.specs.List.{concat}
+use Rattle.std.proofs.Common.{◌≡◌, ◌≤◌, length, refl, ℕ, Bool, true, false, List, [], ◌∷◌, Option, None, Some, take, drop, arith}
+use Rattle.std.specs.Prelude.{◌&&◌, IsTrue, if◌then◌else◌, slice_get, slice_index, slice_index_or}
 use Rattle.lane_core.specs.declared.event.AtomicKind.{AtomicKind}
 use Rattle.lane_core.specs.declared.event.AtomicKind.TheVariants.{Add, And, Or, Xor, IMin, IMax, UMin, UMax, Exchange}
 use Rattle.lane_core.specs.declared.event.Event.{Event}
@@ -15,21 +14,21 @@ use Rattle.hl_meaning.specs.declared.program.Copying.TheVariants.{CopyBoth, Copy
 use Rattle.hl_meaning.specs.declared.ty.Kind.{Kind}
 use Rattle.hl_meaning.specs.declared.ty.Kind.TheVariants.{Bool as BoolKind, Int as IntKind, Uint as UintKind}
 use Rattle.hl_meaning.specs.Types.{Ty, array_type, scalar_type, struct_type, vector_type, void_type}
-use Rattle.hl_meaning.specs.Trees.{Args, Expr, Form, Location, MaybeExpr, MaybeLocation, PathParts, Root, Target, a_location, atomic_form, binary_form, build_form, bytes_target, call_form, choose_form, convert_form, index_part, intrinsic_form, literal_form, member_part, method_form, more_args, more_parts, no_expr, no_location, no_parts, pick_form, place_arg, place_target, place_type, read_form, some_expr, some_location, swizzle_part, type_of, unary_form, value_arg, write_form}
+use Rattle.hl_meaning.specs.Trees.{Args, Expr, Form, Location, MaybeExpr, MaybeLocation, PathParts, Target, a_location, atomic_form, binary_form, build_form, bytes_target, call_form, choose_form, convert_form, index_part, intrinsic_form, literal_form, member_part, method_form, more_args, more_parts, no_expr, no_location, no_parts, pick_form, place_arg, place_target, place_type, read_form, some_expr, some_location, swizzle_part, type_of, unary_form, value_arg, write_form}
 use Rattle.hl_meaning.specs.Programs.{Member, Resource, StructDef}
 use Rattle.hl_meaning.specs.Layout.{kinds_of, words_of}
 use Rattle.hl_meaning.specs.WellFormed.{ArePassed, IsExpr, IsForm, IsLiteralOf, IsOriginal, IsPassed, IsPlace, IsTarget, Param, callee_params}
 use Rattle.hl_meaning.specs.Operators.{is_among}
 use Rattle.hl_meaning.specs.Places.{Scope, is_raw}
 use Rattle.std.proofs.lemmas.Bool.{false≢true}
-use Rattle.hl_source.specs.Operations.{binary_words, chosen_word, component_kind, converted, less, map_2, map_3, picked, unary_word, word_as}
-use Rattle.hl_source.specs.State.{Callee, Context, Progress, State, after, asks, asks_word, each, ends_at, goes_with}
-use Rattle.hl_source.specs.Offsets.{Reached, holder_of, indexes_of_steps, literal_indexes, member_of, picked_reached, picked_words, place_of, reached, slot_of, start_of, step_to_element, step_to_letters, step_to_member, type_of_root}
-use Rattle.hl_source.specs.Memory.{load_four, write_place, zeros_of}
+use Rattle.hl_source.specs.Operations.{binary_words, chosen_word, component_kind, converted, less, map_2, unary_word, word_as}
+use Rattle.hl_source.specs.State.{Callee, Context, Progress, State, after, asks, asks_word, ends_at, goes_with}
+use Rattle.hl_source.specs.Offsets.{Reached, holder_of, indexes_of_steps, literal_indexes, member_of, picked_reached, place_of, reached, slot_of, start_of, step_to_element, step_to_letters, step_to_member, type_of_root}
+use Rattle.hl_source.specs.Memory.{load_four, write_place}
 use Rattle.hl_source.specs.Intrinsics.{Work, absolute, barrier, clamped, from_all, from_one, from_three, from_two, greater, lesser, of_lane, own_form, wave, wave_alone, wave_at, wave_four, wave_word, wave_words, work_of, worked, works}
 use Rattle.hl_source.specs.Expressions.{acts, assigned, assigns, atomic_original, calls, copies_in, copies_out, initial_parameters, no_callee, read_if, value_of_words, write_if}
 use Rattle.event_laws.specs.Laws.{Every, Is32Bits, IsSlot, NamesLane, barrier_modes}
-use Rattle.event_laws.proofs.Lists.{AllWords, AreWords, every_at, every_concat, every_drop, every_get, every_map_3, every_replicate, every_take, every_to, word_at, zero_is}
+use Rattle.event_laws.proofs.Lists.{AllWords, AreWords, every_concat, every_drop, every_get, every_map_3, every_replicate, every_take, every_to, word_at, zero_is}
 use Rattle.event_laws.proofs.WordLemmas.{first_low_is, ones_is, reversed_is, truth_is, wrapped_is}
 use Rattle.event_laws.proofs.Operators.{all_read_as, binary_all, chosen_is, converted_words, picked_words_are, read_as, unary_is}
 use Rattle.event_laws.proofs.Keeping.{Any, Keeping, Keeps, Sound, keeping_after, keeping_asks, keeping_asks_word, keeping_each, keeping_gives, keeping_goes, keeping_no_value, keeping_then, keeps_after}

@@ -1,9 +1,8 @@
 -- Parts of a run that keep to words: from variables and events of words of 32 bits they come to such ones.
-use Rattle.std.proofs.Common.{◌≡◌, refl, sym, subst, ◌<◌, ℕ, zero, suc, Bool, true, false, List, [], ◌∷◌, ◌++◌, Option, None, Some, Result, Ok, Err}
+use Rattle.std.proofs.Common.{◌≡◌, refl, ◌<◌, ℕ, zero, suc, Bool, true, false, List, [], ◌∷◌, ◌++◌, Result, Ok, Err}
 use Rattle.std.specs.Option.{ok_or}
 use Rattle.std.specs.Prelude.{if◌then◌else◌, nat_lt, slice_get}
 use Rattle.std.proofs.lemmas.Bool.{ltb-true}
-use Rattle.lane_core.specs.declared.event.Asked.TheVariants.{Goes}
 use Rattle.lane_core.specs.declared.event.Event.{Event}
 use Rattle.lane_core.specs.declared.event.LaneFault.{LaneFault}
 use Rattle.lane_core.specs.declared.event.LaneFault.TheVariants.{OutOfBounds}

@@ -1,6 +1,6 @@
 -- Places are read and written with words.
-use Rattle.std.proofs.Common.{◌≡◌, refl, subst, ◌<◌, ◌≤◌, ◌+◌, ◌*◌, zero, suc, div-add-mod', arith, ℕ, List, [], ◌∷◌, ◌++◌, drop, length, map, take, Option, None, Some}
-use Rattle.std.specs.Prelude.{replicate, slice_get, slice_index, slice_set, unwrap_or, zip}
+use Rattle.std.proofs.Common.{◌≡◌, refl, ◌<◌, ◌≤◌, ◌+◌, ◌*◌, zero, suc, div-add-mod', arith, ℕ, List, [], ◌∷◌, ◌++◌, drop, length, take, Option, None, Some}
+use Rattle.std.specs.Prelude.{replicate, slice_get, slice_set, unwrap_or, zip}
 use Rattle.std.specs.Int.{div_ceil}
 use Rattle.std.proofs.lemmas.List.{length-drop, length-take}
 use Rattle.std.specs.Option.{option_map, option_and_then}
@@ -15,17 +15,17 @@ use Rattle.lane_core.specs.Replies.{reply_word, reply_words}
 use Rattle.lane_core.specs.Words.{wrapping_add}
 use Rattle.hl_meaning.specs.Trees.{Location, PathParts, Root, a_location, constant_root, element_root, shared_root, variable_root}
 use Rattle.hl_meaning.specs.Types.{Ty, void_type}
-use Rattle.hl_meaning.specs.Programs.{Resource, StructDef, Variable}
-use Rattle.hl_meaning.specs.Places.{element_type, path_type, reached_type}
+use Rattle.hl_meaning.specs.Programs.{Resource, Variable}
+use Rattle.hl_meaning.specs.Places.{element_type, path_type}
 use Rattle.hl_meaning.specs.WellFormed.{IsPlace}
 use Rattle.hl_meaning.proofs.LayoutLemmas.{words-void}
 use Rattle.hl_meaning.specs.Layout.{kinds_of, words_of}
 use Rattle.hl_source.specs.Operations.{map_2, picked, word_as}
 use Rattle.hl_source.specs.State.{Context, Progress, State, asks, asks_word, each, goes_with}
-use Rattle.hl_source.specs.Offsets.{Holder, Reached, holder_of, in_constant, in_element, in_shared, in_variable, indexes_of_steps, place_of, slot_of}
+use Rattle.hl_source.specs.Offsets.{Holder, Reached, holder_of, in_constant, in_element, in_shared, in_variable, place_of, slot_of}
 use Rattle.hl_source.specs.Memory.{atomic_address, atomic_word, buffer_atomic, byte_offset, cell, constant_words, load_four, load_words, pieces, read_place, read_reached, read_words, shared_atomic, shared_size, store_four, store_words, within, word_of, word_offsets, write_letters, write_place, write_variable_word, write_words}
 use Rattle.event_laws.specs.Laws.{Every, HasWords, Is32Bits, IsCell, IsSlot, Names, Stores}
-use Rattle.event_laws.proofs.Lists.{AllWords, AreWords, every_append, every_at, every_concat, every_drop, every_get, every_made, every_replicate, every_set, every_take, every_to, every_zip, word_at, zero_is}
+use Rattle.event_laws.proofs.Lists.{AllWords, AreWords, every_append, every_concat, every_drop, every_get, every_made, every_replicate, every_set, every_take, every_to, every_zip, word_at, zero_is}
 use Rattle.event_laws.proofs.WordLemmas.{wrapped_is}
 use Rattle.event_laws.proofs.Operators.{all_read_as, picked_words_are}
 use Rattle.event_laws.proofs.Keeping.{Any, Keeping, keeping_asks, keeping_asks_word, keeping_each, keeping_each_any, keeping_goes, keeping_no_value, keeping_of_variables, keeping_sets, keeping_then, keeping_within_low, keeping_within, keeping_words_of}

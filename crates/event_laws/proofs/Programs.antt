@@ -1,6 +1,6 @@
 -- The lane of a well-formed program keeps to words.
-use Rattle.std.proofs.Common.{◌≡◌, ◌∙◌, refl, sym, ap, subst, ℕ, suc, zero, false, List, [], ◌∷◌, ◌++◌, drop, map, Option, None, Some, arith, length, get_or}
-use Rattle.std.specs.Prelude.{slice_get, slice_index_or, unwrap_or, take}
+use Rattle.std.proofs.Common.{◌≡◌, ◌∙◌, refl, sym, ap, subst, ℕ, suc, zero, false, List, [], ◌∷◌, ◌++◌, drop, map, Option, None, Some, arith, length}
+use Rattle.std.specs.Prelude.{slice_get, slice_index_or, unwrap_or}
 use Rattle.std.specs.Option.{option_map_or}
 use Rattle.std.proofs.lemmas.List.{append-nil, append_assoc}
 use Rattle.std.proofs.lemmas.Option.{none-some, same_Some, unwrap_or-slice_get}
@@ -9,19 +9,18 @@ use Rattle.lane_core.specs.declared.event.Asked.TheVariants.{Asks, Ended, Fault,
 use Rattle.lane_core.specs.declared.event.Event.{Event}
 use Rattle.lane_core.specs.declared.event.Slot.{Slot}
 use Rattle.lane_core.specs.declared.event.Reply.{Reply}
-use Rattle.lane_core.specs.Inputs.{components, coordinates_of}
-use Rattle.lane_core.specs.Lane.{Exchange, Lane, Run, first_exchange}
+use Rattle.lane_core.specs.Inputs.{coordinates_of}
+use Rattle.lane_core.specs.Lane.{Lane, Run, first_exchange}
 use Rattle.lane_core.specs.Words.{wrapped}
-use Rattle.hl_meaning.specs.declared.program.Parameter.{Parameter}
 use Rattle.hl_meaning.specs.declared.ty.Kind.{Kind}
 use Rattle.hl_meaning.specs.Types.{component_count, scalar_type, void_type}
 use Rattle.hl_meaning.specs.Programs.{Constant, FunctionDef, Program, Resource, Variable}
 use Rattle.hl_meaning.specs.Slots.{slot_after, slots_after, slots_of}
 use Rattle.hl_meaning.specs.Layout.{kinds_of, words_of}
 use Rattle.hl_meaning.specs.Places.{variable_type}
-use Rattle.hl_meaning.specs.WellFormed.{HoldWords, IsConstant, IsFunction, IsWellFormed}
+use Rattle.hl_meaning.specs.WellFormed.{HoldWords, IsConstant, IsWellFormed}
 use Rattle.hl_source.specs.State.{Callee, Context, Progress, after, ends_at, goes_with}
-use Rattle.hl_source.specs.Memory.{constant_words, zeros_of}
+use Rattle.hl_source.specs.Memory.{zeros_of}
 use Rattle.hl_source.specs.Expressions.{no_callee}
 use Rattle.hl_source.specs.SourceLane.{callee_of, callees_after, context_of, entry_of, entry_run, first_state, input_words, inputs, returned_value, semantic_components, source_lane}
 use Rattle.hl_source.specs.Statements.{Leaving, at_end, by_break, by_continue, by_return, does_all}
@@ -30,9 +29,8 @@ use Rattle.typed_laws.proofs.Sound.{CalleesFit}
 use Rattle.event_laws.specs.Laws.{EventsHaveWords, EventsNameWhatIsThere, Every, HasWords, HoldsAsked, HoldsOfRun, Is32Bits, IsSlot, Names}
 use Rattle.event_laws.proofs.Lists.{AllWords, AreWords, every_append, every_at, every_from_all, every_made, every_replicate, every_take, zero_is}
 use Rattle.event_laws.proofs.WordLemmas.{wrapped_is}
-use Rattle.event_laws.proofs.Keeping.{Keeps, Keeping, keeping_then, keeps_after, keeping_goes}
+use Rattle.event_laws.proofs.Keeping.{Keeps, Keeping, keeping_then}
 use Rattle.event_laws.proofs.Forms.{KeepsCallee, keeps_no_callee, literal_is}
-use Rattle.event_laws.proofs.Places.{HasConstants}
 use Rattle.event_laws.proofs.Statements.{LeavesWords, keeping_does_all}
 
 -- constants

@@ -1,5 +1,5 @@
 -- Well-formed statements keep to words.
-use Rattle.std.proofs.Common.{ℕ, zero, suc, Bool, true, false, List, [], map, Option, None, Some}
+use Rattle.std.proofs.Common.{ℕ, zero, suc, Bool, true, false, [], map, Option, None, Some}
 use Rattle.std.specs.Prelude.{if◌then◌else◌, slice_get, slice_index, slice_index_or, slice_set, unwrap_or}
 use Rattle.lane_core.specs.declared.event.Event.{Event}
 use Rattle.lane_core.specs.Words.{holds}
@@ -8,7 +8,7 @@ use Rattle.hl_meaning.specs.WellFormed.{AreStmts, IsCondition, IsConditionIf, Is
 use Rattle.hl_source.specs.State.{Context}
 use Rattle.hl_source.specs.Expressions.{no_callee}
 use Rattle.hl_source.specs.Statements.{Doing, Leaving, after_body, after_statement, after_turn, at_end, by_break, by_continue, by_return, choice, computes, computes_if, condition, condition_if, declares, do_turn, does, does_all, does_if, for_turn, returns, turns}
-use Rattle.event_laws.proofs.Lists.{AreWords, every_get, every_made, every_set, zero_is}
+use Rattle.event_laws.proofs.Lists.{AreWords, every_made, every_set, zero_is}
 use Rattle.event_laws.specs.Laws.{Is32Bits}
 use Rattle.event_laws.proofs.Keeping.{Any, Keeping, keeping_after, keeping_goes, keeping_out_of_turns, keeping_sets, keeping_then}
 use Rattle.event_laws.proofs.Places.{HasConstants, HasSlots, Proper}

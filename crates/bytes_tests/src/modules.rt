@@ -93,6 +93,13 @@ fn reads_tables(rt: HostRuntime) -> Result<(), Fail> {
         }
         _ => return Err(Fail::from("no struct")),
     }
+    match module.consts.as_slice() {
+        [first, second] => {
+            assert_eq!(rt; first.value, ConstValue::Int(-1));
+            assert_eq!(rt; second.value, ConstValue::Int(7));
+        }
+        _ => return Err(Fail::from("not two constants")),
+    }
     match module.metas.as_slice() {
         [Meta::Value { ty: 0, value: 3 }, Meta::Node(ids)] => {
             assert_eq!(rt; ids.as_slice(), [Some(0), None].as_slice());

@@ -86,8 +86,8 @@ abbrev pub NamesLane : WaveKind → ℕ → Type 0
 NamesLane ReadLaneAt lane = Unit {0}
 NamesLane _ lane = lane ≡ 0
 
--- An event names buffers and words of groupshared variables that are there, stores from one to
--- four words to a buffer, and is one of the source's barriers or wave operations.
+-- An event names a buffer or a word of a groupshared variable that is there, where it stores to a
+-- buffer from one to four words, or is one of the source's barriers or wave operations.
 abbrev pub Names : List StructDef → (shared : List Variable) → List Slot → Event → Type 0
 Names structs shared slots (BufferLoad slot index offset) = IsSlot slots slot
 Names structs shared slots (BufferStore slot index offset count words) = IsSlot slots slot × Stores count words

@@ -2,7 +2,7 @@
 
 ghost use Rattle.event_laws.specs.Laws.{EventsHaveWords, EventsNameWhatIsThere};
 
-/// All numbers in the events of a run are words of 32 bits, whatever the replies hold.
+/// The numbers that a lane computes for its events are words of 32 bits, whatever the replies hold.
 pub fn events_have_words()
     ensures { EventsHaveWords }
 {}
